@@ -34,9 +34,10 @@ suffix→occurs : (p t : List ℕ) (s n : ℕ) → n ≤ length t → s ≤ n �
 unfolding occurs
 suffix→occurs p t s n h k e =
     let z : s + (n - s) ≡ n = omega arith in
-    let q : p ≡ take (n - s) (drop s t) = e ∙ ap (λ (m : ℕ). drop s (take m t)) (sym z) ∙ drop-take s (n - s) t (omega arith) in
-    (subst (λ (l : List ℕ). prefix p l ≡ true) (take-append-drop (n - s) (drop s t)) (rw (← q) (prefix-append p (drop (n - s) (drop s t)))),
-      omega (arith, ap length q, length-take (n - s) (drop s t), length-drop s t))
+    let q : p ≡ take (n - s) (drop s t) = e ∙ ap (λ (m : ℕ). drop s (take m t)) (sym z) ∙ drop-take s (n - s) t (omega arith) in (
+      subst (λ (l : List ℕ). prefix p l ≡ true) (take-append-drop (n - s) (drop s t)) (rw (← q) (prefix-append p (drop (n - s) (drop s t)))),
+      omega (arith, ap length q, length-take (n - s) (drop s t), length-drop s t),
+    )
 
 pub suffix-test : (p t : List ℕ) (s n : ℕ) → n ≤ length t → s ≤ n
     → same p (drop s (take n t)) ≡ (occurs p t s && eqb (s + length p) n)

@@ -141,9 +141,11 @@ module _ (es : List Entry) (P : Proper es) where
     -- if all that end later than m start after it, what is kept is the best of all
     kept-final : (q : List ℕ) (m : ℕ) (f : Found) → Kept es q p m (some f)
         → ((g : Found) → From es q p g → p + m < g .end → f .start < g .start) → Kept es q p (length q) (some f)
-    kept-final q m f K later =
-        (K .0, (ends-inside q p f (K .0)) .1,
-          λ g G h. elim (decLt (p + m) (g .end)) [ | yes l ↦ inr (inl (later g G l)) | no l ↦ K .2 g G (omega arith) ])
+    kept-final q m f K later = (
+      K .0,
+      (ends-inside q p f (K .0)) .1,
+      λ g G h. elim (decLt (p + m) (g .end)) [ yes l ↦ inr (inl (later g G l)) | no l ↦ K .2 g G (omega arith) ],
+    )
 
     -- a state that is left at the end of u starts no earlier than the longest
     left-late : (u r : List ℕ) (g : Found) (G : From es (u ++ r) p g) → G .offset ≤ length u → p + length u ≤ g .end
@@ -258,13 +260,15 @@ module _ (es : List Entry) (P : Proper es) where
           | yes l ↦ let a = unsaid u b r g e G (omega (arith, length-snoc u b)) in N (a .ahead) (a .stands) (a .ended)
           | no l ↦ N g G (omega arith)
         ]
-    passed u b r (some f) e N =
-        (N .0, omega (arith, N .1, length-snoc u b),
-          λ g G k. elim (decLt (p + length u) (g .end)) [
-            | yes l ↦ let a = unsaid u b r g e G (omega (arith, length-snoc u b)) in
-                inr (inl (omega (arith, a .earlier, not-before f (a .ahead) (N .2 (a .ahead) (a .stands) (a .ended)))))
-            | no l ↦ N .2 g G (omega arith)
-          ])
+    passed u b r (some f) e N = (
+      N .0,
+      omega (arith, N .1, length-snoc u b),
+      λ g G k. elim (decLt (p + length u) (g .end)) [
+        | yes l ↦ let a = unsaid u b r g e G (omega (arith, length-snoc u b)) in
+            inr (inl (omega (arith, a .earlier, not-before f (a .ahead) (N .2 (a .ahead) (a .stands) (a .ended)))))
+        | no l ↦ N .2 g G (omega arith)
+      ],
+    )
 
     -- ---- the byte puts something out
 
@@ -315,10 +319,12 @@ module _ (es : List Entry) (P : Proper es) where
           ]
 
       leading-kept : Kept es (u ++ r) p (length u) (some (foundAt (p + d .offset) x))
-      leading-kept =
-          (from-read u r p x (d .offset) (leading-entry .0) leading-lies, omega (arith, leading-end),
-            λ g G k. subst (λ (f : Found). (f ≡ foundAt (p + d .offset) x) ⊎ ByLength (foundAt (p + d .offset) x) f) (sym (G .is))
-                (leading-best (G .entry) (G .offset) (G .listed) (read-lies g G k)))
+      leading-kept = (
+        from-read u r p x (d .offset) (leading-entry .0) leading-lies,
+        omega (arith, leading-end),
+        λ g G k. subst (λ (f : Found). (f ≡ foundAt (p + d .offset) x) ⊎ ByLength (foundAt (p + d .offset) x) f) (sym (G .is))
+            (leading-best (G .entry) (G .offset) (G .listed) (read-lies g G k)),
+      )
         where
           read-lies : (g : Found) (G : From es (u ++ r) p g) → g .end ≤ p + length u → occurs (G .entry .word) u (G .offset) ≡ true
           read-lies g G k =

@@ -71,12 +71,14 @@ module _ (es : List Entry) (P : Proper es) (t : List ℕ) where
             → ((f : Found) → p < f .end → Chosen ByLength es t (f .end) ((saysLeftmost M n (f .end) moved t) .matches))
             → Chosen ByLength es t p ((onGiven o moved (λ f. saysLeftmost M n (f .end) moved t)) .matches)
         go none K more = λ g s k. let G = stands-from p g s k in K g G ((ends-inside es P (drop p t) p g G) .1)
-        go (some f) K more =
-            (record {
-              stands = from-stands p f (K .0);
-              from = from-start p f (K .0);
-              best = λ g s k. let G = stands-from p g s k in K .2 g G ((ends-inside es P (drop p t) p g G) .1);
-            }, more f (omega (arith, ends-inside es P (drop p t) p f (K .0), from-start p f (K .0))))
+        go (some f) K more = (
+          record {
+            stands = from-stands p f (K .0);
+            from = from-start p f (K .0);
+            best = λ g s k. let G = stands-from p g s k in K .2 g G ((ends-inside es P (drop p t) p g G) .1);
+          },
+          more f (omega (arith, ends-inside es P (drop p t) p f (K .0), from-start p f (K .0))),
+        )
 
     says-longest : (saysLeftmost M (suc (length t)) 0 0 t) .matches ≡ leftmostBy longest es t
     says-longest =

@@ -27,7 +27,7 @@ apart-skip p (f ∷ l) r h =
 
 between-start : (es : List Entry) (t : List ℕ) (s e : ℕ) (f : Found) → List·Memᴰ f (between es t s e) → f .start ≡ s
 unfolding between
-between-start es t s e f m = 
+between-start es t s e f m =
     let r = Memᴰ·of-map (foundAt s) (those (λ x. occurs (x .word) t s && eqb (s + length (x .word)) e) es) m in
     ap (λ (g : Found). g .start) (sym (r .2))
 
