@@ -28,11 +28,11 @@ use Rattle.paper.proofs.Stops.{Begun, starts-begun, begun-starts, longe
 
 module _ (es : List Entry) where
   -- a state's own outputs are the entries that are its string
-  in-own : (s : List ℕ) {x : Entry} → List·Memᴰ x (ownOf es s) → List·Memᴰ x es × (x .word ≡ s)
+  pub in-own : (s : List ℕ) {x : Entry} → List·Memᴰ x (ownOf es s) → List·Memᴰ x es × (x .word ≡ s)
   unfolding ownOf
   in-own s {x} m = let r = in-those (λ y. same (y .word) s) es m in (r .0, same-eq (x .word) s (r .1))
 
-  to-own : (x : Entry) → List·Memᴰ x es → List·Memᴰ x (ownOf es (x .word))
+  pub to-own : (x : Entry) → List·Memᴰ x es → List·Memᴰ x (ownOf es (x .word))
   unfolding ownOf
   to-own x m = to-those (λ y. same (y .word) (x .word)) es m (same-refl (x .word))
 
@@ -40,16 +40,16 @@ module _ (es : List Entry) where
   unfolding ownOf
   rising-own s P = sorted-those (λ x y. x .row < y .row) (λ y. same (y .word) s) es (P .rising)
 
-  own-some : (l : List Entry) {x : Entry} → List·Memᴰ x l → not (isNil l) ≡ true
+  pub own-some : (l : List Entry) {x : Entry} → List·Memᴰ x l → not (isNil l) ≡ true
   own-some [] m = absurd (List·Memᴰ·not-nil m)
   own-some (y ∷ l) m = refl
 
-  own-entry : (s : List ℕ) (l : List Entry) → ownOf es s ≡ l → not (isNil l) ≡ true → (x : Entry) × List·Memᴰ x es × (x .word ≡ s)
+  pub own-entry : (s : List ℕ) (l : List Entry) → ownOf es s ≡ l → not (isNil l) ≡ true → (x : Entry) × List·Memᴰ x es × (x .word ≡ s)
   own-entry s [] e h = clash refl (sym h)
   own-entry s (x ∷ l) e h =
       let r = in-own s (subst (λ (k : List Entry). List·Memᴰ x k) (sym e) (List·Memᴰ·head refl)) in (x, r .0, r .1)
 
-entry-state : (es : List Entry) (x : Entry) (s : List ℕ) → List·Memᴰ x es → prefix s (x .word) ≡ true → isState es s ≡ true
+pub entry-state : (es : List Entry) (x : Entry) (s : List ℕ) → List·Memᴰ x es → prefix s (x .word) ≡ true → isState es s ≡ true
 unfolding isState
 entry-state [] x s m h = absurd (List·Memᴰ·not-nil m)
 entry-state (y ∷ es) x s m h =

@@ -69,7 +69,7 @@ ors false true c d = refl
 ors false false c d = refl
 
 -- dead is no state, and a link to a state says which
-abbrev isTo : Link → Bool
+abbrev pub isTo : Link → Bool
 isTo dead = false
 isTo (to r) = true
 
@@ -182,11 +182,11 @@ module _ (M : Machine) (L : Lawful M) where
 
   -- ---- no other links meet them
 
-  failure-shorter : (x : ℕ) (xs : List ℕ) → length (failure S (x ∷ xs)) ≤ length xs
+  pub failure-shorter : (x : ℕ) (xs : List ℕ) → length (failure S (x ∷ xs)) ≤ length xs
   unfolding failure
   failure-shorter x xs = longest-length S xs
 
-  failure-is-state : (s : List ℕ) → S (failure S s) ≡ true
+  pub failure-is-state : (s : List ℕ) → S (failure S s) ≡ true
   unfolding failure
   failure-is-state [] = L .states .root
   failure-is-state (x ∷ xs) = longest-is-state S (L .states) xs

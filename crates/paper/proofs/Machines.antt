@@ -15,7 +15,7 @@ use Rattle.paper.proofs.Strings.{same-eq, prefix-refl, prefix-trans, pr
 use Rattle.paper.proofs.Longest.{States}
 use Rattle.paper.proofs.Links.{Lawful}
 
-state-root : (es : List Entry) → isState es [] ≡ true
+pub state-root : (es : List Entry) → isState es [] ≡ true
 unfolding isState prefix
 state-root [] = refl
 state-root (x ∷ xs) = refl
@@ -41,7 +41,7 @@ own-at-states (x ∷ xs) s h =
     (λ e. rw e (own-at-states xs s (or-not-right (prefix s (x .word)) (isState xs s) h)))
 
 -- nor by root, as no pattern is empty
-own-not-root : (es : List Entry) → ((x : Entry) → List·Memᴰ x es → 0 < length (x .word)) → ownOf es [] ≡ []
+pub own-not-root : (es : List Entry) → ((x : Entry) → List·Memᴰ x es → 0 < length (x .word)) → ownOf es [] ≡ []
 unfolding ownOf those
 own-not-root [] h = refl
 own-not-root (x ∷ xs) h =

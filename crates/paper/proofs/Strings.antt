@@ -1,7 +1,7 @@
 -- Laws of strings: the same, a prefix, one byte more.
 use mathlib.Core.Path.{_≡_, refl, sym, ap, ap₂, _∙_, subst}
 use mathlib.Core.Bool.{Bool, true, false, _&&_, true≢false, false≢true}
-use mathlib.Core.List.{List, [], _∷_, _++_, append-assoc, append-nil}
+use mathlib.Core.List.{List, [], _∷_, _++_, append-assoc, append-nil, head-eq-of-cons-eq, tail-eq-of-cons-eq}
 use mathlib.Core.Logic.{_⊎_, inl, inr}
 use Prim.Native.Nat.{ℕ, zero, suc, _+_, _≤_, _<_}
 use native.Mathlib.Nat.{not-suc-le-zero}
@@ -96,6 +96,19 @@ snoc-append (x ∷ xs) c t = ap (cons x) (snoc-append xs c t)
 pub length-snoc : (s : List ℕ) (c : ℕ) → length (snoc s c) ≡ suc (length s)
 length-snoc [] c = refl
 length-snoc (x ∷ xs) c = ap suc (length-snoc xs c)
+
+-- a string with one byte more tells the string and the byte
+pub snoc-parent : (u v : List ℕ) (c d : ℕ) → snoc u c ≡ snoc v d → u ≡ v
+snoc-parent [] [] c d e = refl
+snoc-parent [] (y ∷ v) c d e = absurd (omega (arith, ap length e, length-snoc v d))
+snoc-parent (x ∷ u) [] c d e = absurd (omega (arith, ap length e, length-snoc u c))
+snoc-parent (x ∷ u) (y ∷ v) c d e = ap₂ _∷_ (head-eq-of-cons-eq e) (snoc-parent u v c d (tail-eq-of-cons-eq e))
+
+pub snoc-byte : (u v : List ℕ) (c d : ℕ) → snoc u c ≡ snoc v d → c ≡ d
+snoc-byte [] [] c d e = head-eq-of-cons-eq e
+snoc-byte [] (y ∷ v) c d e = absurd (omega (arith, ap length e, length-snoc v d))
+snoc-byte (x ∷ u) [] c d e = absurd (omega (arith, ap length e, length-snoc u c))
+snoc-byte (x ∷ u) (y ∷ v) c d e = snoc-byte u v c d (tail-eq-of-cons-eq e)
 
 pub prefix-snoc : (s : List ℕ) (c : ℕ) → prefix s (snoc s c) ≡ true
 prefix-snoc s c = rw snoc-is (prefix-append s (c ∷ []))

@@ -1,0 +1,6 @@
+pub mod First
+pub mod Refusals
+pub mod Patterns
+pub mod Scans
+pub mod Checks
+pub mod Sound

@@ -1,0 +1,17 @@
+// The limits of document 01 for the code: specs/Limits.antt has the same numbers for the promises.
+
+pub const LAST_KIND: u32 = 2;
+
+pub const ALPHABET: usize = 256;
+
+pub const MOST_LISTED: usize = 1024;
+
+pub const MOST_BYTES: usize = 64;
+
+pub const MOST_CELLS: usize = 65536;
+
+pub const MOST_TEXT: usize = 65536;
+
+pub const BLOCK: usize = 256;
+
+pub const WINDOW: usize = 16;

@@ -1,0 +1,4 @@
+pub mod Names
+pub mod Breadth
+pub mod Outputs
+pub mod Claims

@@ -1,0 +1,7 @@
+pub mod Growing
+pub mod Inserting
+pub mod Seeking
+pub mod Adding
+pub mod Dropping
+pub mod Making
+pub mod Accepting

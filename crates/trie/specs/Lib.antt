@@ -1,0 +1,4 @@
+pub mod Trie
+pub mod Owned
+pub mod Answers
+pub mod Made
