@@ -58,7 +58,7 @@ adding-start {names = names} w n I e =
       named = I .root;
       left = ap (λ (u : List ℕ). along names u w) (I .root);
       own-old = λ k h. refl;
-      own-new = λ k h l. absurd (omega arith)
+      own-new = λ k h l. absurd (omega arith);
     }
 
 module _ {a : ℕ} {K₀ K : Slots} {names : List (List ℕ)} {w : List ℕ} {n s i : ℕ} (A : Adding a K₀ K names w n s i) (h : i < length w) where
@@ -83,7 +83,7 @@ module _ {a : ℕ} {K₀ K : Slots} {names : List (List ℕ)} {w : List ℕ} {n 
         named = k .named ∙ ap (λ (x : List ℕ). snoc x (getD w i 0)) (A .named) ∙ sym (take-snoc w i h);
         left = rw (add-one, k .named) (sym (along-old (A .cur) (getD (A .cur) s []) (drop (suc i) w) (getD w i 0) here) ∙ rest);
         own-old = A .own-old;
-        own-new = A .own-new
+        own-new = A .own-new;
       }
 
   pub adding-new : (L : Slots) (d prev next : ℕ) → getD w i 0 < a → d ≡ suc i → Gap a (A .cur) (getD (A .cur) s []) (getD w i 0) prev next
@@ -99,7 +99,7 @@ module _ {a : ℕ} {K₀ K : Slots} {names : List (List ℕ)} {w : List ℕ} {n 
         named = named ∙ ap (λ (x : List ℕ). snoc x (getD w i 0)) (A .named) ∙ sym (take-snoc w i h);
         left = rw (add-one, named) (sym (along-new (A .cur) (getD (A .cur) s []) (drop (suc i) w) (getD w i 0) (G .absent)) ∙ rest);
         own-old = λ k l. J .own-other k (λ z. omega (arith, A .count, A .longer)) ∙ A .own-old k l;
-        own-new = own-new
+        own-new = own-new;
       }
     where
       new : List (List ℕ)
@@ -132,7 +132,7 @@ pub adding-end : {K₀ K : Slots} {names : List (List ℕ)} {w : List ℕ} {n s 
 adding-end {names = names} {w = w} {s = s} {i = i} A e =
     let done : A .cur ≡ along names [] w
     = sym (along-end (A .cur) (getD (A .cur) s []))
-        ∙ ap (λ (l : List ℕ). along (A .cur) (getD (A .cur) s []) l) (sym (ap (λ (k : ℕ). drop k w) e ∙ drop-length w)) ∙ A .left in
+    ∙ ap (λ (l : List ℕ). along (A .cur) (getD (A .cur) s []) l) (sym (ap (λ (k : ℕ). drop k w) e ∙ drop-length w)) ∙ A .left in
     record {
       trie = rw (← done) (A .trie);
       count = rw (← done) (A .count);
@@ -140,7 +140,7 @@ adding-end {names = names} {w = w} {s = s} {i = i} A e =
       apart = A .apart;
       named = rw (← done) (A .named ∙ ap (λ (k : ℕ). take k w) e ∙ take-length w);
       own-old = A .own-old;
-      own-new = λ k l m. A .own-new k l (omega (arith, A .count))
+      own-new = λ k l m. A .own-new k l (omega (arith, A .count));
     }
 
 -- the state before a gap is one of the names

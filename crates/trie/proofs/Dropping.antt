@@ -106,7 +106,7 @@ module _ {a : ℕ} {K : Slots} {names : List (List ℕ)} {es : List Entry} (I : 
           inside = k .inside;
           apart = λ e. omega (arith, k .above);
           named = k .named ∙ ap (λ (u : List ℕ). snoc u (getD w i 0)) (W .named) ∙ sym (take-snoc w i h);
-          none = λ x m p l. passed z x m p (omega arith)
+          none = λ x m p l. passed z x m p (omega arith);
         }
 
   pub through : {w : List ℕ} {s i : ℕ} → Walking a K names es w s i → i ≡ length w → barred es w ≡ false

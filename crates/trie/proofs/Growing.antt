@@ -28,7 +28,7 @@ module _ (a : ℕ) (names : List (List ℕ)) (w : List ℕ) where
         above = k .above;
         inside = omega (arith, more-length names w, k .inside);
         byte = k .byte;
-        named = more-old names w t (k .inside) ∙ k .named
+        named = more-old names w t (k .inside) ∙ k .named;
       }
 
   -- what does not look at the new name stays
@@ -40,7 +40,7 @@ module _ (a : ℕ) (names : List (List ℕ)) (w : List ℕ) where
         low = l .low;
         gap = λ d h k. more-absent names w (snoc u d) (l .gap d h k) (n d h k);
         none = l .none;
-        some = λ z. kid-more u (l .stop) t (l .some z)
+        some = λ z. kid-more u (l .stop) t (l .some z);
       }
 
 module _ (a : ℕ) (K : Slots) (names : List (List ℕ)) (I : Trie a K names) where
@@ -86,7 +86,7 @@ module _ (a : ℕ) (K : Slots) (names : List (List ℕ)) (I : Trie a K names) wh
           low = omega (arith, G .lo-le);
           gap = λ c h k. more-absent names w (snoc u c) (G .least .gap c (omega arith) (omega (arith, G .later))) (λ q. omega (arith, snoc-byte u u c b q));
           none = λ z. absurd (omega (arith, I .two));
-          some = λ z. kid-new
+          some = λ z. kid-new;
         }
 
     -- the slot that leads on from it
@@ -97,7 +97,7 @@ module _ (a : ℕ) (K : Slots) (names : List (List ℕ)) (I : Trie a K names) wh
           low = G .later;
           gap = λ c h k. more-absent names w (snoc u c) (G .least .gap c (omega (arith, G .lo-le)) k) (λ q. omega (arith, snoc-byte u u c b q));
           none = G .least .none;
-          some = λ z. kid-more a names w u (G .least .stop) next (G .least .some z)
+          some = λ z. kid-more a names w u (G .least .stop) next (G .least .some z);
         }
 
     -- it has no child itself
@@ -108,7 +108,7 @@ module _ (a : ℕ) (K : Slots) (names : List (List ℕ)) (I : Trie a K names) wh
           low = omega arith;
           gap = λ c h k. more-absent names w (snoc w c) (none-below w c k (G .absent)) (λ q. snoc-longer w c q);
           none = λ z. refl;
-          some = λ z. absurd (z refl)
+          some = λ z. absurd (z refl);
         }
 
     -- other states' first children
@@ -215,7 +215,7 @@ module _ (a : ℕ) (K : Slots) (names : List (List ℕ)) (I : Trie a K names) wh
             before = omega arith;
             apart = apart;
             small = small;
-            is = rw (q, more-new names w, more-old names w s inside)
+            is = rw (q, more-new names w, more-old names w s inside);
           }
           | no q ↦
               let hk : k < n = omega arith in
@@ -226,7 +226,7 @@ module _ (a : ℕ) (K : Slots) (names : List (List ℕ)) (I : Trie a K names) wh
                 before = r .before;
                 apart = r .apart;
                 small = r .small;
-                is = rw (more-old names w k hk, more-old names w (r .parent) (omega (arith, r .before))) (r .is)
+                is = rw (more-old names w k hk, more-old names w (r .parent) (omega (arith, r .before))) (r .is);
               }
         ]
 
@@ -241,5 +241,5 @@ module _ (a : ℕ) (K : Slots) (names : List (List ℕ)) (I : Trie a K names) wh
           child = λ k h. first-at k (omega (arith, more-length names w));
           next = λ k c v h hc e. next-at k c v (omega (arith, more-length names w)) hc e;
           labelled = λ k c v h hc e. label-at k c v (omega (arith, more-length names w)) hc e;
-          deep = λ k h z. deep-at k (omega (arith, more-length names w)) z
+          deep = λ k h z. deep-at k (omega (arith, more-length names w)) z;
         }

@@ -49,7 +49,7 @@ module _ (rows : List (List ℕ)) (n s b d prev next : ℕ) (inside : n < length
         depth-new = at-new s 3 r below;
         depth-other = at-old s 3 r below refl;
         own-new = at-new s 4 r below;
-        own-other = at-old s 4 r below refl
+        own-other = at-old s 4 r below refl;
       }
 
   -- the new state comes after prev
@@ -68,5 +68,5 @@ module _ (rows : List (List ℕ)) (n s b d prev next : ℕ) (inside : n < length
         depth-new = at-new prev 3 r before;
         depth-other = at-old prev 3 r before refl;
         own-new = at-new prev 4 r before;
-        own-other = at-old prev 4 r before refl
+        own-other = at-old prev 4 r before refl;
       }

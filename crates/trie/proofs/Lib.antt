@@ -4,4 +4,5 @@ pub mod Seeking
 pub mod Adding
 pub mod Dropping
 pub mod Making
+pub mod Starting
 pub mod Accepting

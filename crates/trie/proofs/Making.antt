@@ -82,9 +82,14 @@ pile-keep : (O P : Owns) (n m h : ℕ) (l : List Entry) → n ≤ m → ((k : �
     → Pile O n h l → Pile P m h l
 pile-keep O P n m h [] le f p = p
 pile-keep O P n m h (x ∷ xs) le f p =
-    let g = f (p .0) (p .2) in
-    (p .0, p .1, omega (arith, p .2), g .0 ∙ p .3, omega (arith, g .1, p .4),
-      subst (λ (b : ℕ). Pile P m b xs) (sym (g .1)) (pile-keep O P n m (O .before (p .0)) xs le f (p .5)))
+    let g = f (p .0) (p .2) in (
+      p .0,
+      p .1,
+      omega (arith, p .2),
+      g .0 ∙ p .3,
+      omega (arith, g .1, p .4),
+      subst (λ (b : ℕ). Pile P m b xs) (sym (g .1)) (pile-keep O P n m (O .before (p .0)) xs le f (p .5)),
+    )
 
 pile-bound : (O : Owns) (n h : ℕ) (l : List Entry) → Pile O n h l → h ≤ n
 pile-bound O n h [] p = omega (arith, p)
@@ -105,7 +110,7 @@ trie-same {a} {K} {L} {ns} f s l d I =
       child = λ k h. rw (f k) (I .child k h);
       next = λ k c u h b e. rw (s k) (I .next k c u h b e);
       labelled = λ k c u h b e. l k ∙ I .labelled k c u h b e;
-      deep = λ k h z. d k ∙ I .deep k h z
+      deep = λ k h z. d k ∙ I .deep k h z;
     }
 
 pub own-trie : {ns : List (List ℕ)} (rows : List (List ℕ)) (s v : ℕ) → s < length rows → Trie alphabet (slotsOf rows) ns → Trie alphabet (slotsOf (withOwn rows s v)) ns
@@ -181,7 +186,7 @@ module _ (rows owns grown : List (List ℕ)) (es : List Entry) (states count sta
                   rw (e, own-at, ne-eqb (count + 1) 0 (λ q. omega arith), G .named, own-here es x) (sym (not-nil-snoc (ownOf es w) x))
               | no e ↦ rw (own-else k e, own-there es x (getD new k []) (not-word k h e)) (was-own k h z .0)
             ];
-        dead = own-else 1 (λ e. G .apart (sym e)) ∙ G .own-old 1 (omega (arith, A .trie .two)) ∙ A .owned .dead
+        dead = own-else 1 (λ e. G .apart (sym e)) ∙ G .own-old 1 (omega (arith, A .trie .two)) ∙ A .owned .dead;
       }
 
   -- the slots of outputs, where there is one more
@@ -199,11 +204,15 @@ module _ (rows owns grown : List (List ℕ)) (es : List Entry) (states count sta
       (elim (ℕ-discrete k state) [
         | yes e ↦
             let before : field (set owns count r) count 1 ≡ field grown state 4 = field-set-same owns count 1 r below in
-            rw (e, own-at, G .named, own-here es x, reverse-snoc (ownOf es w) x)
-            (count, add-one count, omega arith, field-set-same owns count 0 r below,
+            rw (e, own-at, G .named, own-here es x, reverse-snoc (ownOf es w) x) (
+              count,
+              add-one count,
+              omega arith,
+              field-set-same owns count 0 r below,
               omega (arith, before, pile-bound (ownsOf owns) count (field grown state 4) (reverse (ownOf es (getD new state []))) inside),
               rw before (pile-keep (ownsOf owns) (ownsOf (set owns count r)) count (count + 1) (field grown state 4) (reverse (ownOf es w)) (omega arith) keeps
-              (subst (λ (s : List ℕ). Pile (ownsOf owns) count (field grown state 4) (reverse (ownOf es s))) (G .named) inside)))
+                  (subst (λ (s : List ℕ). Pile (ownsOf owns) count (field grown state 4) (reverse (ownOf es s))) (G .named) inside)),
+            )
         | no e ↦
             rw (own-else k e, own-there es x (getD new k []) (not-word k h e))
             (pile-keep (ownsOf owns) (ownsOf (set owns count r)) count (count + 1) (field grown k 4) (reverse (ownOf es (getD new k []))) (omega arith) keeps
@@ -218,7 +227,7 @@ module _ (rows owns grown : List (List ℕ)) (es : List Entry) (states count sta
         states-are = rw same (G .count);
         count-is = omega (arith, A .count-is, length-append es (x ∷ []));
         owned = rw same made-owned;
-        piled = λ l. rw same (made-piled l)
+        piled = λ l. rw same (made-piled l);
       }
 
 -- what an answer says, by its case

@@ -70,7 +70,7 @@ module _ {a : ℕ} {K : Slots} {names : List (List ℕ)} (I : Trie a K names) wh
           least = rw (← z) (q .least);
           later = l;
           front = q .front;
-          after = q .after
+          after = q .after;
         }
 
     pub onward : (t ≡ 0 → ⊥) → K .label t < b → Seeking a names u b t (K .sibling t)
@@ -80,5 +80,5 @@ module _ {a : ℕ} {K : Slots} {names : List (List ℕ)} (I : Trie a K names) wh
           lo-le = h;
           least = least-next I (q .least) nz;
           front = λ z. absurd (nz z);
-          after = λ z. record { byte = K .label t; lo-is = refl; kid = least-kid I (q .least) nz }
+          after = λ z. record { byte = K .label t; lo-is = refl; kid = least-kid I (q .least) nz };
         }

@@ -25,7 +25,7 @@ slotsOf rows =
       sibling = λ k. field rows k 1;
       label = λ k. field rows k 2;
       depth = λ k. field rows k 3;
-      own = λ k. field rows k 4
+      own = λ k. field rows k 4;
     }
 
 -- the rows with the first two anew: root and dead

@@ -19,9 +19,13 @@ pub struct TrieId(pub u32);
 
 // The fields of a state's row.
 const FIRST: usize = 0;
+
 const SIBLING: usize = 1;
+
 const LABEL: usize = 2;
+
 const DEPTH: usize = 3;
+
 const OWN: usize = 4;
 
 // The child with the lowest byte; root, which is no child, where there is none.
@@ -88,12 +92,18 @@ pub fn locate(trie: &[[u32; 5]], s: TrieId, byte: u8) -> Place
             return Place::At(t);
         }
         if wanted < c {
-            return Place::Between { prev: prev, next: t };
+            return Place::Between {
+                prev: prev,
+                next: t,
+            };
         }
         prev = t;
         t = next_sibling(trie, t);
     }
-    Place::Between { prev: prev, next: TrieId(0) }
+    Place::Between {
+        prev: prev,
+        next: TrieId(0),
+    }
 }
 
 // Each of the three writes one field and keeps the row's others.
@@ -134,7 +144,15 @@ fn set_new(trie: &mut [[u32; 5]], n: TrieId, next: TrieId, byte: u8, depth: u32)
 }
 
 // A new state n, the child of s on a byte, between two of its children.
-fn insert(trie: &mut [[u32; 5]], n: TrieId, s: TrieId, byte: u8, depth: u32, prev: TrieId, next: TrieId)
+fn insert(
+    trie: &mut [[u32; 5]],
+    n: TrieId,
+    s: TrieId,
+    byte: u8,
+    depth: u32,
+    prev: TrieId,
+    next: TrieId,
+)
     requires { ⌜ (n .0 < length (now trie)) × (s .0 < n .0) × (prev .0 < n .0) ⌝ }
     ensures { λ _. ⌜ Inserted (slotsOf (now (trie .entry))) (slotsOf (now (trie .exit))) (n .0) (s .0) byte depth (prev .0) (next .0) ⌝ }
 {
@@ -178,7 +196,10 @@ fn add(trie: &mut [[u32; 5]], states: u32, slots: u32, part: &[u8]) -> Added
         }
         i += 1;
     }
-    Added::To { state: s, states: n }
+    Added::To {
+        state: s,
+        states: n,
+    }
 }
 
 // Whether a state before the last byte of a pattern has an own output: then LeftmostFirst drops the pattern. Nothing is written.
@@ -208,11 +229,7 @@ fn dropped(trie: &[[u32; 5]], drops: bool, part: &[u8]) -> bool
     ensures { λ r. ⌜ ((names : List (List ℕ)) (es : List Entry) → Trie alphabet (slotsOf (now (trie .entry))) names → Owned (slotsOf (now (trie .entry))) names es
         → Covers names es → r ≡ (drops && barred es (now (part .entry)))) ⌝ }
 {
-    if drops {
-        begun(trie, part)
-    } else {
-        false
-    }
+    if drops { begun(trie, part) } else { false }
 }
 
 // Root and dead, with no children and no own outputs.
@@ -252,24 +269,50 @@ pub enum Grew {
 }
 
 // One pattern of the list: dropped, or its states and its own output. Full where its states would pass the slots.
-fn add_one(trie: &mut [[u32; 5]], owns: &mut [[u32; 2]], drops: bool, states: u32, accepted: u32, slots: u32, row: u32, part: &[u8]) -> Grew
+fn add_one(
+    trie: &mut [[u32; 5]],
+    owns: &mut [[u32; 2]],
+    drops: bool,
+    states: u32,
+    accepted: u32,
+    slots: u32,
+    row: u32,
+    part: &[u8],
+) -> Grew
     requires { ⌜ MadeSome (now trie) (now owns) states accepted ⌝ }
     requires { ⌜ (states ≤ slots) × (slots ≤ length (now trie)) × (accepted < mostListed) × (length (now part) ≤ mostBytes) ⌝ }
     ensures { λ r. ⌜ ((es : List Entry) → Made (slotsOf (now (trie .entry))) (ownsOf (now (owns .entry))) states accepted (length (now (owns .entry))) es
         → GrewOk slots (slotsOf (now (trie .exit))) (ownsOf (now (owns .exit))) (length (now (owns .entry))) (grownBy drops es (entry row (now (part .entry)))) r) ⌝ }
 {
     if dropped(trie, drops, part) {
-        return Grew::On { states: states, accepted: accepted };
+        return Grew::On {
+            states: states,
+            accepted: accepted,
+        };
     }
-    let Added::To { state, states: grown } = add(trie, states, slots, part) else {
+    let Added::To {
+        state,
+        states: grown,
+    } = add(trie, states, slots, part)
+    else {
         return Grew::Full;
     };
     give(trie, owns, state, row, accepted);
-    Grew::On { states: grown, accepted: accepted + 1 }
+    Grew::On {
+        states: grown,
+        accepted: accepted + 1,
+    }
 }
 
 // The trie of a whole list (the crate's `NfaBuilder::add`, pattern by pattern). Full where its states, root and dead counted, pass the slots.
-pub fn add_all(drops: bool, bytes: &[u8], ends: &[u32], trie: &mut [[u32; 5]], owns: &mut [[u32; 2]], slots: u32) -> Grew
+pub fn add_all(
+    drops: bool,
+    bytes: &[u8],
+    ends: &[u32],
+    trie: &mut [[u32; 5]],
+    owns: &mut [[u32; 2]],
+    slots: u32,
+) -> Grew
     requires { ⌜ Parted (now bytes) (now ends) × (slots ≤ length (now trie)) ⌝ }
     ensures { λ r. ⌜ GrewOk slots (slotsOf (now (trie .exit))) (ownsOf (now (owns .exit))) (length (now (owns .entry)))
         (acceptOn drops [] (rows (patternsOf (now (bytes .entry)) (now (ends .entry))))) r ⌝ }
@@ -284,12 +327,28 @@ pub fn add_all(drops: bool, bytes: &[u8], ends: &[u32], trie: &mut [[u32; 5]], o
     while i < ends.len() {
         let from = list::pattern_start(ends, i);
         let to = list::pattern_end(ends, i);
-        let Grew::On { states: more, accepted: given } = add_one(trie, owns, drops, states, accepted, slots, i as u32, &bytes[from..to]) else {
+        let Grew::On {
+            states: more,
+            accepted: given,
+        } = add_one(
+            trie,
+            owns,
+            drops,
+            states,
+            accepted,
+            slots,
+            i as u32,
+            &bytes[from..to],
+        )
+        else {
             return Grew::Full;
         };
         states = more;
         accepted = given;
         i += 1;
     }
-    Grew::On { states: states, accepted: accepted }
+    Grew::On {
+        states: states,
+        accepted: accepted,
+    }
 }

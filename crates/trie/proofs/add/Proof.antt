@@ -21,7 +21,7 @@ abbrev Inv-loop : tie.InvT-loop
 Inv-loop trie₀ states slots part n₀ s₀ i₀ trie n s i =
     (i ≤ length part) × (length trie ≡ length trie₀) × (n ≤ slots)
     × ((names : List (List ℕ)) → Trie alphabet (slotsOf trie₀) names → states ≡ length names
-        → Adding alphabet (slotsOf trie₀) (slotsOf trie) names part n (s .0) i)
+    → Adding alphabet (slotsOf trie₀) (slotsOf trie) names part n (s .0) i)
 
 abbrev μ-loop : tie.MeasureT-loop
 μ-loop trie₀ states slots part n₀ s₀ i₀ trie n s i = length part - i
@@ -92,10 +92,14 @@ loop-less c = search needs
 -- src/lib.rt:159:5
 loop-again : tie.Need-loop-again Inv-loop μ-loop
 loop-again c = ⊎-elim
-    (λ w. rw (w .3, w .4, w .5)
-    (omega arith, c .before .before .before .before .before .loop .inv .1, c .before .before .before .before .before .loop .inv .2, λ names I e.
-    let A = c .before .before .before .before .before .loop .inv .3 names I e in
-    adding-old A (c .before .before .before .before .loop-test .taken) _ (located-at _ _ _ _ _ (c .before .locate .ensures (A .cur) (A .trie) (A .inside)) (w .1 .given .1))))
+    (λ w. rw (w .3, w .4, w .5) (
+      omega arith,
+      c .before .before .before .before .before .loop .inv .1,
+      c .before .before .before .before .before .loop .inv .2,
+      λ names I e.
+          let A = c .before .before .before .before .before .loop .inv .3 names I e in
+          adding-old A (c .before .before .before .before .loop-test .taken) _ (located-at _ _ _ _ _ (c .before .locate .ensures (A .cur) (A .trie) (A .inside)) (w .1 .given .1)),
+    ))
     (λ w. (
       omega arith,
       ap length (w .7) ∙ w .5 .kept .0 ∙ c .before .before .before .before .before .loop .inv .1,

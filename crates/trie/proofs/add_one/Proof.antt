@@ -39,9 +39,10 @@ returns c = λ es A.
 
 -- src/lib.rt:263:46
 add-requires : tie.Need-add-requires
-add-requires c κs = let m = c .before .before .before .before .before .pre .0 in
-    (record { names = names alphabet (m .es); trie = m .made .trie; room = omega (arith, m .made .states-are, m .room); count = m .made .states-are },
-      (c .before .before .before .before .before .pre .1 .0, c .before .before .before .before .before .pre .1 .1, c .before .before .before .before .before .pre .1 .3))
+add-requires c κs = let m = c .before .before .before .before .before .pre .0 in (
+  record { names = names alphabet (m .es); trie = m .made .trie; room = omega (arith, m .made .states-are, m .room); count = m .made .states-are },
+  (c .before .before .before .before .before .pre .1 .0, c .before .before .before .before .before .pre .1 .1, c .before .before .before .before .before .pre .1 .3),
+)
 
 -- src/lib.rt:263:21
 enum-known-state : tie.Need-enum-known-state
@@ -88,9 +89,11 @@ returns-3 c = λ es A.
     let e : (k .args .drops && barred es (k .args .part .now)) ≡ false
     = sym (c .before .before .before .before .before .before .before .before .before .before .before .before .dropped .ensures (names alphabet es) es (A .trie) (A .owned) (names-cover alphabet es)) ∙ c .before .before .before .before .before .before .before .before .before .before .before .if1 .left in
     let G = added-to _ _ _ _ _ _ _ _ (c .before .before .before .before .before .before .before .before .before .add .ensures (names alphabet es) (A .trie) (A .states-are)) (c .before .before .before .before .before .before .state .given .1) in
-    rw (e, c .before .before .give .ensures .0, c .before .before .give .ensures .1)
-    (made-more (k .args .trie .now) (k .args .owns .now) (c .before .before .before .before .before .before .before .before .before .add .last .0) es (k .args .states) (k .args .accepted) _ _ (k .args .row) (k .args .part .now) A (G .0)
-    (omega (arith, G .1, k .pre .1, c .before .before .before .before .before .before .before .before .before .add .kept .0)), G .1)
+    rw (e, c .before .before .give .ensures .0, c .before .before .give .ensures .1) (
+      made-more (k .args .trie .now) (k .args .owns .now) (c .before .before .before .before .before .before .before .before .before .add .last .0) es (k .args .states) (k .args .accepted) _ _ (k .args .row) (k .args .part .now) A (G .0)
+          (omega (arith, G .1, k .pre .1, c .before .before .before .before .before .before .before .before .before .add .kept .0)),
+      G .1,
+    )
 
 pub add-one-spec : {M : Type 1} → statement M
 add-one-spec =

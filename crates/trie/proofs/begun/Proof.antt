@@ -22,7 +22,7 @@ abbrev Inv-loop : tie.InvT-loop
 Inv-loop trie part s₀ i₀ s i =
     (i ≤ length part) × ((names : List (List ℕ)) → Trie alphabet (slotsOf trie) names → s .0 < length names)
     × ((names : List (List ℕ)) (es : List Entry) → Trie alphabet (slotsOf trie) names → Owned (slotsOf trie) names es → Covers names es
-        → Walking alphabet (slotsOf trie) names es part (s .0) i)
+    → Walking alphabet (slotsOf trie) names es part (s .0) i)
 
 abbrev μ-loop : tie.MeasureT-loop
 μ-loop trie part s₀ i₀ s i = length part - i
