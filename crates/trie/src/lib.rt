@@ -73,25 +73,31 @@ pub fn own(trie: &[[u32; 5]], s: TrieId) -> u32
     trie[k][OWN]
 }
 
+// A byte as the rows hold it.
+fn wide(byte: u8) -> u32
+    ensures { λ r. ⌜ (r ≡ byte) × (r < alphabet) ⌝ }
+{
+    byte as u32
+}
+
 // Where a byte stands among the children of a state, or between which two it would go.
 pub enum Place {
     At(TrieId),
     Between { prev: TrieId, next: TrieId },
 }
 
-pub fn locate(trie: &[[u32; 5]], s: TrieId, byte: u8) -> Place
-    requires { ⌜ Known (now trie) (s .0) ⌝ }
+pub fn locate(trie: &[[u32; 5]], s: TrieId, byte: u32) -> Place
+    requires { ⌜ Known (now trie) (s .0) × (byte < alphabet) ⌝ }
     ensures { λ r. ⌜ ((names : List (List ℕ)) → Trie alphabet (slotsOf (now (trie .entry))) names → s .0 < length names → Located names (s .0) byte r) ⌝ }
 {
-    let wanted = byte as u32;
     let mut prev = TrieId(0);
     let mut t = first_child(trie, s);
     while t.0 != 0 {
         let c = label(trie, t);
-        if c == wanted {
+        if c == byte {
             return Place::At(t);
         }
-        if wanted < c {
+        if byte < c {
             return Place::Between {
                 prev: prev,
                 next: t,
@@ -135,12 +141,12 @@ fn set_own(trie: &mut [[u32; 5]], s: TrieId, own: u32)
 }
 
 // A state with no child and no own output.
-fn set_new(trie: &mut [[u32; 5]], n: TrieId, next: TrieId, byte: u8, depth: u32)
+fn set_new(trie: &mut [[u32; 5]], n: TrieId, next: TrieId, byte: u32, depth: u32)
     requires { ⌜ n .0 < length (now trie) ⌝ }
     ensures { λ _. ⌜ now (trie .exit) ≡ withNew (now (trie .entry)) (n .0) (next .0) byte depth ⌝ }
 {
     let i = n.0 as usize;
-    trie[i] = [0, next.0, byte as u32, depth, 0];
+    trie[i] = [0, next.0, byte, depth, 0];
 }
 
 // A new state n, the child of s on a byte, between two of its children.
@@ -148,7 +154,7 @@ fn insert(
     trie: &mut [[u32; 5]],
     n: TrieId,
     s: TrieId,
-    byte: u8,
+    byte: u32,
     depth: u32,
     prev: TrieId,
     next: TrieId,
@@ -180,7 +186,7 @@ fn add(trie: &mut [[u32; 5]], states: u32, slots: u32, part: &[u8]) -> Added
     let mut s = TrieId(0);
     let mut i: usize = 0;
     while i < part.len() {
-        let byte = part[i];
+        let byte = wide(part[i]);
         match locate(trie, s, byte) {
             Place::At(t) => {
                 s = t;
@@ -214,7 +220,7 @@ fn begun(trie: &[[u32; 5]], part: &[u8]) -> bool
         if own(trie, s) != 0 {
             return true;
         }
-        let Place::At(t) = locate(trie, s, part[i]) else {
+        let Place::At(t) = locate(trie, s, wide(part[i])) else {
             return false;
         };
         s = t;

@@ -17,16 +17,16 @@ use Rattle.trie.proofs.label.Reads as label-reads
 use Rattle.trie.proofs.next_sibling.Reads as next-sibling-reads
 
 abbrev Inv-loop : tie.InvT-loop
-Inv-loop trie byte wanted prev₀ t₀ prev t =
+Inv-loop trie byte prev₀ t₀ prev t =
     (names : List (List ℕ)) (u : List ℕ) → Trie alphabet (slotsOf trie) names → Least alphabet names u 0 (t₀ .0)
     → Seeking alphabet names u byte (prev .0) (t .0)
 
 abbrev μ-loop : tie.MeasureT-loop
-μ-loop trie byte wanted prev₀ t₀ prev t = rank alphabet (slotsOf trie) (t .0)
+μ-loop trie byte prev₀ t₀ prev t = rank alphabet (slotsOf trie) (t .0)
 
 -- src/lib.rt:79:9
 first-child-requires : tie.Need-first-child-requires Inv-loop μ-loop
-first-child-requires c κs = omega (arith, c .pre .room, c .pre .inside)
+first-child-requires c κs = omega (arith, c .pre .0 .room, c .pre .0 .inside)
 
 -- what the loop knows, for the state that was asked
 seeking : (c : tie.At-loop Inv-loop μ-loop) (names : List (List ℕ)) → Trie alphabet (slotsOf (c .before .before .args .trie .now)) names
@@ -37,7 +37,7 @@ seeking c names I h = c .loop .inv names _ I (rw (c .before .first-child .ensure
 -- the loop stays inside the rows
 inside : (c : tie.At-loop Inv-loop μ-loop) → (c .loop .t .0 ≡ 0 → ⊥) → c .loop .t .0 < length (c .before .before .args .trie .now)
 inside c nz =
-    let p = c .before .before .pre in
+    let p = c .before .before .pre .0 in
     let q = seeking c (p .names) (p .trie) (p .inside) in
     omega (arith, least-inside (p .trie) (q .least) nz, p .room)
 
@@ -68,7 +68,7 @@ next-sibling-requires c κs = inside (c .before .before .before .before .before)
 loop-less : tie.Need-loop-less Inv-loop μ-loop
 loop-less c =
     let l = c .before .before .before .before .before .before in
-    let p = l .before .before .pre in
+    let p = l .before .before .pre .0 in
     rw (c .next-sibling .ensures) (least-falls (p .trie) (seeking l (p .names) (p .trie) (p .inside) .least) (c .before .before .before .before .if1 .taken))
 
 -- src/lib.rt:80:5
@@ -80,7 +80,7 @@ loop-again c = λ names u I l.
 
 -- src/lib.rt:73:1
 returns-3 : tie.Need-returns-3 Inv-loop μ-loop
-returns-3 c = λ names I h. ended I (seeking (c .before .before) names I h) (omega arith) (c .if1 .left)
+returns-3 c = λ names I h. ended I (seeking (c .before .before) names I h) (c .before .before .before .before .pre .1) (c .if1 .left)
 
 pub locate-spec : {M : Type 1} → statement M
 locate-spec =
