@@ -231,3 +231,48 @@ module _ (M : Machine) (L : Lawful M) where
 
     pub rules-only : (s : List ℕ) → S s ≡ true → links s ≡ link M s
     rules-only s h = only-link (length s) s (omega arith) h
+
+-- ---- a hunt as a build makes it, one state of the chain after the other
+
+-- where a hunt from a link's target ends; from dead it does not begin
+abbrev pub hunts : Machine → Link → ℕ → Link
+hunts M dead c = dead
+hunts M (to r) c = (hunt (M .isState) (link M) (length r) r c) .found
+
+module _ (M : Machine) (L : Lawful M) where
+  hit-found : (v : List ℕ) (c : ℕ) → M .isState (snoc v c) ≡ true → (hunt (M .isState) (link M) (length v) v c) .found ≡ to (snoc v c)
+  unfolding hunt
+  hit-found [] c h = rw h
+  hit-found (x ∷ xs) c h = rw h
+
+  root-found : (c : ℕ) → M .isState (c ∷ []) ≡ false → (hunt (M .isState) (link M) 0 [] c) .found ≡ to []
+  unfolding hunt
+  root-found c h = rw h
+
+  miss-found : (x : ℕ) (xs : List ℕ) (c : ℕ) → M .isState (snoc (x ∷ xs) c) ≡ false
+      → (hunt (M .isState) (link M) (length (x ∷ xs)) (x ∷ xs) c) .found ≡ (along (link M (x ∷ xs)) (λ r. hunt (M .isState) (link M) (length xs) r c)) .found
+  unfolding hunt
+  miss-found x xs c h = rw h
+
+  -- a state that has the byte ends it
+  pub hunts-hit : (v : List ℕ) (c : ℕ) → M .isState (snoc v c) ≡ true → hunts M (to v) c ≡ to (snoc v c)
+  hunts-hit v c h = hit-found v c h
+
+  -- root without it ends it too
+  pub hunts-root : (c : ℕ) → M .isState (c ∷ []) ≡ false → hunts M (to []) c ≡ to []
+  hunts-root c h = root-found c h
+
+  -- else it goes on from the link
+  pub hunts-miss : (x : ℕ) (xs : List ℕ) (c : ℕ) → M .isState (snoc (x ∷ xs) c) ≡ false → hunts M (to (x ∷ xs)) c ≡ hunts M (link M (x ∷ xs)) c
+  hunts-miss x xs c h =
+      let f = failure (M .isState) (x ∷ xs) in
+      miss-found x xs c h
+      ∙ link-cases M L (x ∷ xs) (λ _ k. rw k)
+      (λ _ k. rw k (hunt-found M L (length xs) f c (failure-shorter M L x xs) ∙ sym (hunt-found M L (length f) f c (omega arith))))
+
+  -- the link of a child: dead for its own output, else where the hunt from the parent's link ends
+  pub child-rule : (x : ℕ) (xs : List ℕ) (c : ℕ) → M .isState (snoc (x ∷ xs) c) ≡ true → M .stops (snoc (x ∷ xs) c) ≡ false
+      → link M (snoc (x ∷ xs) c) ≡ hunts M (link M (x ∷ xs)) c
+  child-rule x xs c q z =
+      link-cases M L (x ∷ xs) (λ _ e. ruled M L .fallen x xs c q z e ∙ rw e)
+      (λ _ e. ruled M L .hunted x xs c (failure (M .isState) (x ∷ xs)) q z e ∙ rw e)
