@@ -4,4 +4,14 @@ pub mod Breadth
 pub mod Outputs
 pub mod Counts
 pub mod Machines
+pub mod Groups
+pub mod Xor
+pub mod Scans
+pub mod Layouts
+pub mod Placement
+pub mod Blocks
+pub mod Owners
+pub mod Cells
+pub mod PlacementCases
+pub mod PlacementClaims
 pub mod Claims

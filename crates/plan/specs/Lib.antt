@@ -1,4 +1,9 @@
 pub mod Names
 pub mod Breadth
 pub mod Outputs
+pub mod Groups
+pub mod Placement
+pub mod Cells
+pub mod PlacementCases
+pub mod PlacementClaims
 pub mod Claims
