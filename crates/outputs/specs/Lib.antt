@@ -1,0 +1,4 @@
+pub mod Rows
+pub mod Stacked
+pub mod Placed
+pub mod Claims
