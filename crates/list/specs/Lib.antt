@@ -1,4 +1,5 @@
 pub mod Limits
+pub mod Kinds
 pub mod Refusals
 pub mod Listed
 pub mod Answers

@@ -16,7 +16,7 @@ use Rattle.plan.specs.Names.{names, namesFrom, rootAndDead}
 use Rattle.plan.proofs.Names.{from-long}
 use Rattle.trie.specs.Trie.{Slots, slotsOf, withRootAndDead, Least, Trie}
 use Rattle.trie.specs.Owned.{Owns, ownsOf}
-use Rattle.trie.specs.Made.{Made, GrewOk, grownBy, acceptOn, entry}
+use Rattle.trie.specs.Made.{Made, GrewOk, grownBy, dropsOf, acceptOn, entry}
 use Rattle.trie.specs.declared.Grew.{Grew}
 use Rattle.trie.specs.declared.Grew.the-variants.{On, Full}
 use Rattle.trie.proofs.Making.{from-append}
@@ -47,12 +47,6 @@ accept-all : (es xs : List Entry) → acceptOn false es xs ≡ es ++ xs
 unfolding acceptOn
 accept-all es [] = sym (append-nil es)
 accept-all es (x ∷ xs) = accept-all (es ++ (x ∷ [])) xs ∙ append-assoc es (x ∷ []) xs
-
--- LeftmostFirst drops
-abbrev pub dropsOf : Kind → Bool
-dropsOf standard = false
-dropsOf (leftmost longest) = false
-dropsOf (leftmost first) = true
 
 pub accept-is : (kind : Kind) (ps : List (List ℕ)) → acceptOn (dropsOf kind) [] (rows ps) ≡ accepted kind ps
 unfolding accepted

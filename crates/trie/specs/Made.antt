@@ -5,7 +5,7 @@ use mathlib.Core.List.{List, [], _∷_, _++_}
 use Prim.Native.Nat.{ℕ, _≤_, _<_}
 use lib.ListN.{length, getD}
 use Rattle.paper.specs.Lists.{pick}
-use Rattle.paper.specs.Patterns.{Entry, barred}
+use Rattle.paper.specs.Patterns.{Entry, Kind, standard, leftmost, longest, first, barred}
 use Rattle.list.specs.Limits.{alphabet, mostListed, mostBytes}
 use Rattle.list.specs.Listed.{patternsOf}
 use Rattle.list.specs.Claims.{SoundEnds}
@@ -42,6 +42,12 @@ entry row word = record { row = row; word = word }
 -- the accepted patterns with one more, unless it is dropped
 abbrev pub grownBy : Bool → List Entry → Entry → List Entry
 grownBy drops es x = pick (drops && barred es (x .word)) es (es ++ (x ∷ []))
+
+-- LeftmostFirst drops
+abbrev pub dropsOf : Kind → Bool
+dropsOf standard = false
+dropsOf (leftmost longest) = false
+dropsOf (leftmost first) = true
 
 -- one pattern after the other
 unfoldable pub acceptOn : Bool → List Entry → List Entry → List Entry
