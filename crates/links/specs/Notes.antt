@@ -19,8 +19,10 @@ notesOf rows = record { order = λ k. field rows k 0; link = λ k. field rows k 
 abbrev pub withOrder : List (List ℕ) → ℕ → ℕ → List (List ℕ)
 withOrder rows k v = set rows k (v ∷ field rows k 1 ∷ field rows k 2 ∷ field rows k 3 ∷ field rows k 4 ∷ field rows k 5 ∷ [])
 
+-- the same of a state's link
 abbrev pub withLink : List (List ℕ) → ℕ → ℕ → List (List ℕ)
 withLink rows k v = set rows k (field rows k 0 ∷ v ∷ field rows k 2 ∷ field rows k 3 ∷ field rows k 4 ∷ field rows k 5 ∷ [])
 
+-- the same of a state's place
 abbrev pub withPlace : List (List ℕ) → ℕ → ℕ → List (List ℕ)
 withPlace rows k v = set rows k (field rows k 0 ∷ field rows k 1 ∷ v ∷ field rows k 3 ∷ field rows k 4 ∷ field rows k 5 ∷ [])

@@ -15,12 +15,15 @@ use Rattle.links.specs.Notes.{Notes, notesOf}
 use Rattle.links.specs.Linked.{Named, Leads, Step, ordered, isLeftmost}
 
 module _ (kind : Kind) (es : List Entry) where
+  -- the names of the states
   abbrev pub ns : List (List ℕ)
   ns = names alphabet es
 
+  -- the automaton
   abbrev pub M : Machine
   M = machine kind es
 
+  -- the states, breadth first
   abbrev pub B : List (List ℕ)
   B = ordered es
 
@@ -39,6 +42,7 @@ module _ (kind : Kind) (es : List Entry) where
       → (machine kind es) .stops (getD (names alphabet es) k []) ≡ false
       → Leads (names alphabet es) (link (machine kind es) (getD (names alphabet es) k [])) (N .link k)
 
+  -- the first n places of the order hold their states
   abbrev pub Ordered : Notes → ℕ → Type 0
   Ordered N n = (i : ℕ) → i < n → Named (names alphabet es) (N .order i) (getD (ordered es) i [])
 
@@ -89,11 +93,13 @@ pub record TurnSome (trie notes : List (List ℕ)) (leftmost : Bool) (s tail : �
   pub turn : Turn kind es trie notes s at tail
   pub mode : leftmost ≡ isLeftmost kind
 
+-- the same for root, whose children link to it
 pub record RootSome (trie notes : List (List ℕ)) : Type 0 where
   pub kind : Kind
   pub es : List Entry
   pub poised : Poised kind es trie notes 0 0 1
 
+-- the same for another state, with root's children at hand
 pub record PoisedSome (trie notes : List (List ℕ)) (tops : List ℕ) (s tail : ℕ) : Type 0 where
   pub kind : Kind
   pub es : List Entry
@@ -102,6 +108,7 @@ pub record PoisedSome (trie notes : List (List ℕ)) (tops : List ℕ) (s tail :
   pub tops-are : Tops (names alphabet es) tops
   pub inner : s ≡ 0 → ⊥
 
+-- the same for the whole
 pub record ReadySome (trie : List (List ℕ)) (room : ℕ) (leftmost : Bool) : Type 0 where
   pub kind : Kind
   pub es : List Entry

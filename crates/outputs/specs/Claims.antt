@@ -46,6 +46,7 @@ pub record TableClaims (kind : Kind) (es : List Entry) (values : List ℕ) (note
   -- the order and the links are still those of the patterns
   pub linked : Linked kind es (notesOf notes)
 
+-- what is proved of the outputs, over the strings and of the tables
 pub record OutputClaims : Type 0 where
   pub stored : (kind : Kind) (es : List Entry) → Proper es → Within alphabet mostBytes es → StoredClaims kind es
   pub tables : {kind : Kind} {es : List Entry} {trie owns notes₀ : List (List ℕ)} {values : List ℕ} {slots states : ℕ}

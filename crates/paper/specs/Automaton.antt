@@ -32,6 +32,7 @@ abbrev pub stopsOf : Kind → List Entry → List ℕ → Bool
 stopsOf standard es s = false
 stopsOf (leftmost c) es s = not (isNil (ownOf es s))
 
+-- the automaton of the accepted patterns, for one kind
 abbrev pub machine : Kind → List Entry → Machine
 machine kind es = record { isState = isState es; own = ownOf es; stops = stopsOf kind es }
 
@@ -82,6 +83,7 @@ pub record Hunt : Type 0 where
   pub found : Link
   pub links : ℕ
 
+-- a hunt with one link more
 abbrev pub followed : Hunt → Hunt
 followed h = record { found = h .found; links = suc (h .links) }
 
@@ -141,10 +143,12 @@ endAt e x = record { start = e - length (x .word); end = e; row = x .row }
 
 -- ---- the walk, with its moves: each link and each byte is one
 
+-- where a walk is, and its moves so far
 pub record Walk : Type 0 where
   pub state : List ℕ
   pub moves : ℕ
 
+-- before the first byte: at root
 abbrev pub fresh : Walk
 fresh = record { state = []; moves = 0 }
 
@@ -211,6 +215,7 @@ pub record Given : Type 0 where
   pub given : Option Found
   pub moves : ℕ
 
+-- a call that ends with what was kept
 abbrev pub giving : Option Found → ℕ → Given
 giving kept moves = record { given = kept; moves = moves }
 

@@ -25,9 +25,11 @@ valueOf values row = getD values row 0
 
 -- ---- the paper's example: he, she, his, hers on ushers
 
+-- the paper's patterns
 abbrev pub paperList : List (List ℕ)
 paperList = bytes "he" ∷ bytes "she" ∷ bytes "his" ∷ bytes "hers" ∷ []
 
+-- their automaton
 abbrev pub paperMachine : Machine
 paperMachine = machine standard (rows paperList)
 
@@ -63,18 +65,23 @@ pub record PaperExample : Type 0 where
 
 -- ---- document 01's case table
 
+-- the list of P1 to P3
 abbrev pub list1 : List (List ℕ)
 list1 = bytes "bcd" ∷ bytes "ab" ∷ bytes "a" ∷ []
 
+-- its values
 abbrev pub values3 : List ℕ
 values3 = 0 ∷ 1 ∷ 2 ∷ []
 
+-- the short code listed first
 abbrev pub short-first : List (List ℕ)
 short-first = bytes "T10" ∷ bytes "T100" ∷ []
 
+-- the long code listed first
 abbrev pub long-first : List (List ℕ)
 long-first = bytes "T100" ∷ bytes "T10" ∷ []
 
+-- one pattern twice
 abbrev pub twins : List (List ℕ)
 twins = bytes "ab" ∷ bytes "ab" ∷ []
 
@@ -82,6 +89,7 @@ twins = bytes "ab" ∷ bytes "ab" ∷ []
 abbrev pub movesOver : List (List ℕ) → List ℕ → ℕ
 movesOver ps t = (walk (machine standard (rows ps)) never fresh t) .moves
 
+-- P2 to P9: the matches as (start, end, value), and the moves of the standard searches
 pub record CaseLists : Type 0 where
   pub p2 : told (valueOf values3) (plain (rows list1) (bytes "abcd")) ≡ at 0 1 2 ∷ at 1 4 0 ∷ []
   pub p3 : told (valueOf values3) (overlapping (rows list1) (bytes "abcd")) ≡ at 0 1 2 ∷ at 0 2 1 ∷ at 1 4 0 ∷ []

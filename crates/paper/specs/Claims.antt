@@ -11,6 +11,7 @@ use Rattle.paper.specs.Automaton.{machine, isState, longestState, Link, 
 
 -- ---- the lists of matches meet their sentences, and no other list does
 
+-- what is proved of the lists
 pub record ListClaims : Type 1 where
   -- what a build accepts has rising rows and no empty pattern
   pub proper : (kind : Kind) (ps : List (List ℕ)) → Filled ps → Proper (accepted kind ps)
@@ -41,6 +42,7 @@ pub record LongestSuffix (S : List ℕ → Bool) (u s : List ℕ) : Type 0 where
   pub state : S s ≡ true
   pub longest : (k : ℕ) → S (drop k u) ≡ true → length (drop k u) ≤ length s
 
+-- what is proved of the automaton
 pub record AutomatonClaims : Type 0 where
   -- (A) after any text the walk of Standard is at the longest suffix that is a state
   pub walk-state : (es : List Entry) (t : List ℕ) → LongestSuffix (isState es) t ((walk (machine standard es) never fresh t) .state)

@@ -11,6 +11,7 @@ use Rattle.paper.specs.Automaton.{machine, isState, output}
 use Rattle.plan.specs.Breadth.{breadth, Bounded, Within, Listing}
 use Rattle.plan.specs.Outputs.{storeAll, nothing, Chained}
 
+-- what is proved of names, order and outputs
 pub record PlanClaims : Type 0 where
   -- patterns of at most n letters below a have states of at most n letters below a
   pub bounded : (a n : ℕ) (es : List Entry) → Within a n es → Bounded a n (isState es)

@@ -40,9 +40,11 @@ withNew rows k next b d = set rows k (0 ∷ next ∷ b ∷ d ∷ 0 ∷ [])
 abbrev pub withFirst : List (List ℕ) → ℕ → ℕ → List (List ℕ)
 withFirst rows k v = set rows k (v ∷ field rows k 1 ∷ field rows k 2 ∷ field rows k 3 ∷ field rows k 4 ∷ [])
 
+-- the same of the next sibling
 abbrev pub withSibling : List (List ℕ) → ℕ → ℕ → List (List ℕ)
 withSibling rows k v = set rows k (field rows k 0 ∷ v ∷ field rows k 2 ∷ field rows k 3 ∷ field rows k 4 ∷ [])
 
+-- the same of the latest own output
 abbrev pub withOwn : List (List ℕ) → ℕ → ℕ → List (List ℕ)
 withOwn rows k v = set rows k (field rows k 0 ∷ field rows k 1 ∷ field rows k 2 ∷ field rows k 3 ∷ v ∷ [])
 
@@ -88,6 +90,7 @@ pub record After (a : ℕ) (names : List (List ℕ)) (u : List ℕ) (lo prev : �
   pub lo-is : lo ≡ suc byte
   pub kid : Kid a names u byte prev
 
+-- u has no child on b: after prev, before next
 pub record Gap (a : ℕ) (names : List (List ℕ)) (u : List ℕ) (b prev next : ℕ) : Type 0 where
   pub absent : has names (snoc u b) ≡ false
   pub lo : ℕ
