@@ -4,7 +4,8 @@ use mathlib.Core.Bool.{Bool, true, false, _&&_}
 use mathlib.Core.List.{List, [], _∷_, _++_, List·Memᴰ, List·Memᴰ·not-nil, List·Memᴰ·cases-cons}
 use mathlib.Core.Logic.{⊎-elim}
 use mathlib.Core.Option.{Option}
-use Prim.Native.Nat.{ℕ, zero, suc, _+_, _≤_, _<_}
+use Prim.Native.Nat.{ℕ, zero, suc, _+_, _*_, _≤_, _<_}
+use native.Mathlib.Decide.{decLt}
 use native.Mathlib.Omega.{arith}
 use lib.Dec.{ltb}
 use lib.ListN.{length, getD, length-append}
@@ -26,6 +27,7 @@ use Rattle.list.specs.Refusals.{Told}
 use Rattle.list.specs.Answers.{told}
 use Rattle.list.specs.declared.Listing.{Listing}
 use Rattle.plan.specs.Names.{names}
+use Rattle.plan.proofs.Names.{names-few}
 use Rattle.trie.specs.Trie.{Slots, slotsOf}
 use Rattle.trie.specs.Owned.{Owns, ownsOf}
 use Rattle.trie.specs.Made.{Made}
@@ -117,15 +119,18 @@ module _ {kind : ℕ} {bytes ends values : List ℕ} (S : Sound kind bytes ends 
   listed : (x : Entry) → List·Memᴰ x es → List·Memᴰ (x .word) (patternsOf bytes ends)
   listed x m = rows-from 0 (patternsOf bytes ends) x (accepted-listed (kindOf kind) (patternsOf bytes ends) x m) .1
 
+  short : (x : Entry) → List·Memᴰ x es → length (x .word) ≤ mostBytes
+  short x m =
+      let r = member-at [] (x .word) (patternsOf bytes ends) (listed x m) in
+      rw (← r .2) (S .short (r .0) (omega (arith, r .1, patterns-length bytes ends)))
+
   pub within : Bytes bytes → Within alphabet mostBytes es
   within B =
       record {
         letters = λ x m c k.
             let r = member-at 0 c (x .word) k in
             rw (← r .2) (pattern-bytes bytes ends B (x .word) (listed x m) (r .0));
-        short = λ x m.
-            let r = member-at [] (x .word) (patternsOf bytes ends) (listed x m) in
-            rw (← r .2) (S .short (r .0) (omega (arith, r .1, patterns-length bytes ends)));
+        short = short;
       }
 
   pub valued : (x : Entry) → List·Memᴰ x es → x .row < length values
@@ -142,10 +147,20 @@ module _ {kind : ℕ} {bytes ends values : List ℕ} (S : Sound kind bytes ends 
       → Made K O states count room (acceptOn drops [] (rows (patternsOf bytes ends))) → Made K O states count room es
   made {drops} {K} {O} {states} {count} {room} e m = subst (λ (l : List Entry). Made K O states count room l) (same-accepted drops e) m
 
+  -- no list within the limits has more states than this
+  states-few : length (names alphabet es) ≤ 2 + mostListed * mostBytes
+  states-few =
+      omega (arith, few, names-few alphabet mostBytes es short)
+
   pub full : {drops : Bool} {slots : ℕ} (stateSlots : ℕ) → drops ≡ dropsOf (kindOf kind) → slots ≡ counted stateSlots
-      → slots < length (names alphabet (acceptOn drops [] (rows (patternsOf bytes ends)))) → counted stateSlots < length (names alphabet es)
+      → slots < length (names alphabet (acceptOn drops [] (rows (patternsOf bytes ends)))) → stateSlots < length (names alphabet es)
   full {drops} {slots} stateSlots e k h =
-      subst (λ (l : List Entry). counted stateSlots < length (names alphabet l)) (same-accepted drops e) (rw (← k) h)
+      let over : counted stateSlots < length (names alphabet es)
+      = subst (λ (l : List Entry). counted stateSlots < length (names alphabet l)) (same-accepted drops e) (rw (← k) h) in
+      elim (decLt stateSlots 4294967295) [
+        | yes l ↦ omega (arith, over, smaller-first stateSlots 4294967295 l)
+        | no l ↦ absurd (omega (arith, over, smaller-second stateSlots 4294967295 (omega arith), states-few))
+      ]
 
   pub ready : {trie : List (List ℕ)} {O : Owns} {states count room noteRoom : ℕ} → Bytes bytes → Made (slotsOf trie) O states count room es
       → states ≤ length trie → states ≤ noteRoom → Ready (kindOf kind) es trie noteRoom

@@ -30,7 +30,7 @@ numberOf (some t) = t .number
 abbrev pub smaller : ℕ → ℕ → ℕ
 smaller a b = pick (ltb a b) a b
 
--- a number of slots as the trie counts them
+-- a number of slots as the trie counts them; no list within the limits has as many states as the bound
 abbrev pub counted : ℕ → ℕ
 counted n = smaller n 4294967295
 
@@ -41,10 +41,10 @@ pub record Built (kind : ℕ) (bytes ends values : List ℕ) (trie owns notes ou
   pub tabled : Tabled (kindOf kind) (acceptedOf kind bytes ends) trie owns linked values (length outs₀) states
   pub placed : Placed (kindOf kind) (acceptedOf kind bytes ends) values linked notes outs₀ outs count
 
--- a refusal has a cause: 1 to 5 are the list's; 6, the states pass the slots; 8, the accepted do
+-- a refusal has a cause: 1 to 5 are the list's; 6, the states, root and dead counted, pass the slots; 8, the accepted do
 pub record Caused (kind : ℕ) (bytes ends values : List ℕ) (stateSlots outSlots n : ℕ) : Type 0 where
   pub listed : n ≤ 5 → n ≡ numberOf (lowest (refusals kind bytes ends values))
-  pub states : n ≡ 6 → Sound kind bytes ends values × (counted stateSlots < length (names alphabet (acceptedOf kind bytes ends)))
+  pub states : n ≡ 6 → Sound kind bytes ends values × (stateSlots < length (names alphabet (acceptedOf kind bytes ends)))
   pub outputs : n ≡ 8 → Sound kind bytes ends values × (outSlots < length (acceptedOf kind bytes ends))
 
 -- what the answer says

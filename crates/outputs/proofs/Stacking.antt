@@ -9,6 +9,7 @@ use lib.Seq.{sets}
 use Rattle.paper.specs.Patterns.{Entry}
 use Rattle.zeros.specs.Rows.{field}
 use Rattle.plan.specs.Outputs.{piled, topOf}
+use Rattle.plan.proofs.Outputs.{top-next}
 use Rattle.trie.specs.Owned.{ownsOf, Pile}
 use Rattle.outputs.specs.Rows.{outRows}
 use Rattle.outputs.specs.Stacked.{Sized, OnChain}
@@ -31,10 +32,6 @@ pub record Taken (owns : List (List ℕ)) (bound : ℕ) (own : List Entry) (stor
   pub row-is : field owns (k - 1) 0 ≡ entry .row
   pub falls : field owns (k - 1) 1 < k
   pub left : n < stored + length own
-
-top-next : (l : List Entry) (n : ℕ) → topOf l (suc n) (suc n) ≡ n + suc (length l)
-top-next [] n = omega arith
-top-next (x ∷ l) n = omega arith
 
 module _ {owns : List (List ℕ)} {values : List ℕ} {size bound : ℕ} {own : List Entry} {stored head : ℕ} {outs₀ : List (List ℕ)} where
   pub begun : {k : ℕ} → Pile (ownsOf owns) bound k own → Left owns values size bound own stored head outs₀ outs₀ stored head k own

@@ -1,9 +1,9 @@
 -- The names are the states and dead, each once; a list of names only grows.
 use mathlib.Core.Path.{_≡_, refl, sym, ap, ap₂, _∙_, subst}
 use mathlib.Core.Bool.{Bool, true, false, _||_, or-assoc, or-false, or-true}
-use mathlib.Core.List.{List, [], _∷_, _++_, append-nil}
+use mathlib.Core.List.{List, [], _∷_, _++_, append-nil, List·Memᴰ, List·Memᴰ·head, List·Memᴰ·tail}
 use mathlib.Core.Logic.{_⊎_, inl, inr, ⊎-elim}
-use Prim.Native.Nat.{ℕ, zero, suc, _+_, _≤_, _<_}
+use Prim.Native.Nat.{ℕ, zero, suc, _+_, _*_, _≤_, _<_}
 use native.Mathlib.Nat.{not-suc-le-zero}
 use native.Mathlib.Decide.{decLt}
 use native.Mathlib.Omega.{arith}
@@ -174,3 +174,26 @@ along-new ns u w c h = rw h
 pub along-end : (ns : List (List ℕ)) (u : List ℕ) → along ns u [] ≡ ns
 unfolding along
 along-end ns u = refl
+
+-- ---- how many there can be
+
+made-few : (ns : List (List ℕ)) (s : List ℕ) → length (made ns s) ≤ suc (length ns)
+unfolding made
+made-few ns s = test (has ns s) (λ h. rw h (omega arith)) (λ h. rw h (omega (arith, length-append ns (s ∷ []))))
+
+along-few : (ns : List (List ℕ)) (u w : List ℕ) → length (along ns u w) ≤ length ns + length w
+unfolding along
+along-few ns u [] = omega arith
+along-few ns u (c ∷ w) = omega (arith, along-few (made ns (snoc u c)) (snoc u c) w, made-few ns (snoc u c))
+
+from-few : (n : ℕ) (ns : List (List ℕ)) (es : List Entry) → ((x : Entry) → List·Memᴰ x es → length (x .word) ≤ n)
+    → length (namesFrom ns es) ≤ length ns + length es * n
+unfolding namesFrom
+from-few n ns [] h = omega arith
+from-few n ns (x ∷ es) h =
+    omega (arith, from-few n (along ns [] (x .word)) es (λ y m. h y (List·Memᴰ·tail m)), along-few ns [] (x .word), h x (List·Memᴰ·head refl))
+
+-- a pattern of at most n letters makes at most n states
+pub names-few : (a n : ℕ) (es : List Entry) → ((x : Entry) → List·Memᴰ x es → length (x .word) ≤ n) → length (names a es) ≤ 2 + length es * n
+unfolding names rootAndDead
+names-few a n es h = from-few n (rootAndDead a) es h

@@ -66,7 +66,7 @@ on-chain outs x head rest h c =
       rw e (chained-more outs (o ∷ []) head rest c),
     )
 
-top-next : (l : List Entry) (n : ℕ) → topOf l (suc n) (suc n) ≡ n + suc (length l)
+pub top-next : (l : List Entry) (n : ℕ) → topOf l (suc n) (suc n) ≡ n + suc (length l)
 top-next [] n = omega arith
 top-next (x ∷ l) n = omega arith
 
