@@ -1,5 +1,6 @@
 #!/bin/sh
-# Remakes the recorded sample. The old one is replaced only by a whole new one.
+# Remakes the recorded sample. The old one is replaced only by a whole new one. It lies where the program
+# `replay` reads it; sample.txt is a link to it.
 set -eu
 
 here=$(cd "$(dirname "$0")" && pwd)
@@ -7,5 +8,5 @@ out="$here/../target/oracle"
 
 sh "$here/build.sh"
 "$out/build/release/oracle" sample > "$out/sample.txt"
-mv "$out/sample.txt" "$here/sample.txt"
+mv "$out/sample.txt" "$here/../crates/replay/stdin"
 echo "oracle: sample remade"
