@@ -1,6 +1,7 @@
 -- The automaton of a lent list: what its tables hold, and when there is none.
 use mathlib.Core.Path.{_≡_}
 use mathlib.Core.List.{List}
+use mathlib.Core.Logic.{_⊎_}
 use mathlib.Core.Option.{Option, none, some}
 use Prim.Native.Nat.{ℕ, _≤_, _<_}
 use lib.Dec.{ltb}
@@ -41,11 +42,13 @@ pub record Built (kind : ℕ) (bytes ends values : List ℕ) (trie owns notes ou
   pub tabled : Tabled (kindOf kind) (acceptedOf kind bytes ends) trie owns linked values (length outs₀) states
   pub placed : Placed (kindOf kind) (acceptedOf kind bytes ends) values linked notes outs₀ outs count
 
--- a refusal has a cause: 1 to 5 are the list's; 6, the states, root and dead counted, pass the slots; 8, the accepted do
+-- a refusal has a cause: 1 to 5 are the list's; 6, the states, root and dead counted, pass the slots; 8, the accepted do and the states don't
 pub record Caused (kind : ℕ) (bytes ends values : List ℕ) (stateSlots outSlots n : ℕ) : Type 0 where
+  pub known : (0 < n) × ((n ≤ 5) ⊎ (n ≡ 6) ⊎ (n ≡ 8))
   pub listed : n ≤ 5 → n ≡ numberOf (lowest (refusals kind bytes ends values))
   pub states : n ≡ 6 → Sound kind bytes ends values × (stateSlots < length (names alphabet (acceptedOf kind bytes ends)))
-  pub outputs : n ≡ 8 → Sound kind bytes ends values × (outSlots < length (acceptedOf kind bytes ends))
+  pub outputs : n ≡ 8 → Sound kind bytes ends values × (length (names alphabet (acceptedOf kind bytes ends)) ≤ stateSlots)
+      × (outSlots < length (acceptedOf kind bytes ends))
 
 -- what the answer says
 abbrev pub Answered : ℕ → List ℕ → List ℕ → List ℕ → ℕ → ℕ → List (List ℕ) → List (List ℕ) → List (List ℕ) → List (List ℕ) → List (List ℕ) → Nfa → Type 0

@@ -1,6 +1,7 @@
 -- `make` calls the phases in their order, each on what the one before has left.
 use mathlib.Core.Path.{_≡_, refl, sym, ap, ap₂, _∙_, subst}
 use mathlib.Core.List.{List, []}
+use mathlib.Core.Logic.{_⊎_, inl, inr}
 use Prim.Native.Nat.{ℕ, _≤_, _<_}
 use native.Mathlib.Omega.{arith}
 use lib.ListN.{length, getD}
@@ -37,15 +38,19 @@ sound-here c = c .before .refusal .ensures .2 (c .if1 .left)
 all-bytes : (c : tie.Else1) → Bytes (c .before .before .before .before .before .args .bytes .now)
 all-bytes c = λ k. c .before .before .before .before .shared-slice-known .given k .fits
 
+-- the slots that the trie may use are no more than both tables have
+slots-under : (c : tie.After-count) → c .count .result ≤ smaller (length (c .before .before .before .before .before .before .before .args .trie .now)) (length (c .before .before .before .before .before .before .before .args .notes .now))
+slots-under c =
+    let n = smaller (length (c .before .before .before .before .before .before .before .args .trie .now)) (length (c .before .before .before .before .before .before .before .args .notes .now)) in
+    let e : c .count .result ≡ counted n = c .count .ensures ∙ ap counted (c .before .least .ensures) in
+    omega (arith, e, smaller-left n 4294967295)
+
 -- the slots that the trie may use are rows of both tables
 slots-fit : (c : tie.After-count) → (c .count .result ≤ length (c .before .before .before .before .before .before .before .args .trie .now)) × (c .count .result ≤ length (c .before .before .before .before .before .before .before .args .notes .now))
 slots-fit c =
-    let n = smaller (length (c .before .before .before .before .before .before .before .args .trie .now)) (length (c .before .before .before .before .before .before .before .args .notes .now)) in
-    let l = ap counted (c .before .least .ensures) in
-    let e : c .count .result ≡ counted n = c .count .ensures ∙ l in (
-      omega (arith, e, smaller-left n 4294967295, smaller-left (length (c .before .before .before .before .before .before .before .args .trie .now)) (length (c .before .before .before .before .before .before .before .args .notes .now))),
-      omega (arith, e, smaller-left n 4294967295, smaller-right (length (c .before .before .before .before .before .before .before .args .trie .now)) (length (c .before .before .before .before .before .before .before .args .notes .now))),
-    )
+    let a = length (c .before .before .before .before .before .before .before .args .trie .now) in
+    let d = length (c .before .before .before .before .before .before .before .args .notes .now) in
+    (omega (arith, slots-under c, smaller-left a d), omega (arith, slots-under c, smaller-right a d))
 
 -- src/lib.rt:75:9
 refusal-requires : tie.Need-refusal-requires
@@ -55,6 +60,7 @@ refusal-requires c κs = search needs
 returns : tie.Need-returns
 returns c =
     record {
+      known = (omega (arith, c .if1 .taken), inl (c .before .refusal .ensures .1));
       listed = λ _. c .before .refusal .ensures .0;
       states = λ e. absurd (omega (arith, c .before .refusal .ensures .1, e));
       outputs = λ e. absurd (omega (arith, c .before .refusal .ensures .1, e));
@@ -97,6 +103,7 @@ returns-2 : tie.Need-returns-2
 returns-2 c =
     let S = sound-here (c .before .before .before .before .before .before .before .before .before .before) in
     record {
+      known = (omega arith, inr (inl refl));
       listed = λ h. absurd (omega arith);
       states = λ _. (
         S,
@@ -167,9 +174,14 @@ returns-3 c =
     let S = sound-here (c .before .before .before .before .before .before .before .before .before .before .before .before .before) in
     let g = grown (c .before .before) in
     record {
+      known = (omega arith, inr (inr refl));
       listed = λ h. absurd (omega arith);
       states = λ e. absurd (omega (arith, e));
-      outputs = λ _. (S, omega (arith, out-slots (c .before), c .if2 .taken, g .0 .count-is));
+      outputs = λ _. (
+        S,
+        omega (arith, g .0 .states-are, g .1, slots-under (c .before .before .before .before .before .before .before .before .before .before .before)),
+        omega (arith, out-slots (c .before), c .if2 .taken, g .0 .count-is),
+      );
     }
 
 -- src/lib.rt:87:34
