@@ -7,6 +7,9 @@ ghost use Rattle.table.specs.Readers.{there, probeOf, linkOf};
 // A cell's number. A trie number is another type, so that the two can't be mixed.
 pub struct CellId(pub u32);
 
+// A state's depth, stored in its cell. Its width is named here alone: no definition and no proof knows it.
+pub type Depth = u8;
+
 // What a probe finds.
 pub enum Found {
     At(CellId),
@@ -53,7 +56,7 @@ pub fn probe(base: &[u32], check: &[u8], cells: u32, s: CellId, byte: u8) -> Fou
 }
 
 // The state that a state links to. Its depth is smaller, so that a walk along links ends on any tables.
-pub fn link(links: &[u32], depth: &[u8], cells: u32, s: CellId) -> Linked
+pub fn link(links: &[u32], depth: &[Depth], cells: u32, s: CellId) -> Linked
     ensures { λ r. ⌜ r ≡ linkOf (now (links .entry)) (now (depth .entry)) cells (s .0) ⌝ }
 {
     if is_there(cells, links.len(), s.0) {
