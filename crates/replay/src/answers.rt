@@ -1,4 +1,4 @@
-// Inner: the recorded answers of a case, and what was found held to them. Cells and texts are read by their counts
+// The recorded answers of a case, and what was found held to them. Cells and texts are read by their counts
 // and not compared.
 use crate::reader::BAD_FORM;
 use crate::reader::fail;
@@ -9,7 +9,7 @@ use crate::reader::wide;
 use crate::tally::judge;
 
 // What a build gives: 0 or the refusal, and where it is 0 the states with root and dead, and the accepted patterns.
-pub struct Found {
+pub(crate) struct Found {
     pub refusal: u32,
     pub states: u32,
     pub accepted: u32,
@@ -162,7 +162,7 @@ fn is_refusal(limit: u32) -> bool {
     3 <= limit && limit <= 5
 }
 
-pub fn compare_case(
+pub(crate) fn compare_case(
     room: &mut [u8; 4096],
     cursor: &mut [usize; 3],
     tally: &mut [u32; 3],

@@ -1,4 +1,4 @@
-// Inner: the pattern list of a case, and the automaton that is made of it.
+// The pattern list of a case, and the automaton that is made of it.
 use crate::answers::Found;
 use crate::reader::TOO_LARGE;
 use crate::reader::byte;
@@ -39,7 +39,7 @@ fn read_bytes(
 }
 
 // The patterns of a list. Answers how many there are.
-pub fn read_list(
+pub(crate) fn read_list(
     room: &mut [u8; 4096],
     cursor: &mut [usize; 3],
     bytes: &mut [u8],
@@ -113,7 +113,7 @@ fn make(kind: u32, bytes: &[u8], ends: &[u32], values: &[u32], outs: &mut [[u32;
 }
 
 // What is found for the first `count` patterns of the tables.
-pub fn ask(
+pub(crate) fn ask(
     kind: u32,
     bytes: &[u8],
     ends: &[u32],

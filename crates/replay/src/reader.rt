@@ -1,4 +1,4 @@
-// Inner: the numbers of standard input, one after the other. What is read lies in `room`; `cursor` says where reading
+// The numbers of standard input, one after the other. What is read lies in `room`; `cursor` says where reading
 // stands in it, how much of it is filled, and the first fault. After a fault every number is 0, so that a caller need
 // not ask after each one, but has to ask before it believes them.
 
@@ -6,14 +6,14 @@ const AT: usize = 0;
 
 const FILLED: usize = 1;
 
-pub const FAULT: usize = 2;
+pub(crate) const FAULT: usize = 2;
 
 // Faults. 0 is none.
-pub const CUT_OFF: usize = 1;
+pub(crate) const CUT_OFF: usize = 1;
 
-pub const BAD_FORM: usize = 2;
+pub(crate) const BAD_FORM: usize = 2;
 
-pub const TOO_LARGE: usize = 3;
+pub(crate) const TOO_LARGE: usize = 3;
 
 // Stands for a byte where the input has ended.
 const ENDED: u32 = 256;
@@ -32,12 +32,12 @@ const ZERO: u32 = 48;
 
 const NINE: u32 = 57;
 
-pub fn is_sound(cursor: &[usize; 3]) -> bool {
+pub(crate) fn is_sound(cursor: &[usize; 3]) -> bool {
     cursor[FAULT] == 0
 }
 
 // Only the first fault is kept: what comes after it may be its echo.
-pub fn fail(cursor: &mut [usize; 3], fault: usize) {
+pub(crate) fn fail(cursor: &mut [usize; 3], fault: usize) {
     if cursor[FAULT] == 0 {
         cursor[FAULT] = fault;
     }
@@ -49,7 +49,7 @@ fn refill(room: &mut [u8; 4096], cursor: &mut [usize; 3]) {
     cursor[FILLED] = io::count(got, room);
 }
 
-pub fn wide(n: u32) -> usize {
+pub(crate) fn wide(n: u32) -> usize {
     n as usize
 }
 
@@ -157,7 +157,7 @@ fn read_digits(room: &mut [u8; 4096], cursor: &mut [usize; 3]) -> u32 {
     0
 }
 
-pub fn number(room: &mut [u8; 4096], cursor: &mut [usize; 3]) -> u32 {
+pub(crate) fn number(room: &mut [u8; 4096], cursor: &mut [usize; 3]) -> u32 {
     if !is_sound(cursor) {
         return 0;
     }
@@ -168,7 +168,7 @@ pub fn number(room: &mut [u8; 4096], cursor: &mut [usize; 3]) -> u32 {
     read_digits(room, cursor)
 }
 
-pub fn byte(room: &mut [u8; 4096], cursor: &mut [usize; 3]) -> u8 {
+pub(crate) fn byte(room: &mut [u8; 4096], cursor: &mut [usize; 3]) -> u8 {
     let value = number(room, cursor);
     if value < 256 {
         return value as u8;
@@ -177,7 +177,7 @@ pub fn byte(room: &mut [u8; 4096], cursor: &mut [usize; 3]) -> u8 {
     0
 }
 
-pub fn pass_numbers(room: &mut [u8; 4096], cursor: &mut [usize; 3], count: u32) {
+pub(crate) fn pass_numbers(room: &mut [u8; 4096], cursor: &mut [usize; 3], count: u32) {
     let mut i = 0;
     while i < count && is_sound(cursor) {
         number(room, cursor);
@@ -185,7 +185,7 @@ pub fn pass_numbers(room: &mut [u8; 4096], cursor: &mut [usize; 3], count: u32) 
     }
 }
 
-pub fn expect_end(room: &mut [u8; 4096], cursor: &mut [usize; 3]) {
+pub(crate) fn expect_end(room: &mut [u8; 4096], cursor: &mut [usize; 3]) {
     if pass_blanks(room, cursor) != ENDED {
         fail(cursor, BAD_FORM);
     }

@@ -1,12 +1,12 @@
-// Inner: how many answers agree and how many differ. The first difference of a case is told when it is met.
+// How many answers agree and how many differ. The first difference of a case is told when it is met.
 
-pub const AGREED: usize = 0;
+pub(crate) const AGREED: usize = 0;
 
-pub const DIFFERING: usize = 1;
+pub(crate) const DIFFERING: usize = 1;
 // The last case of which a difference was told. Cases are counted from 1.
 const TOLD: usize = 2;
 
-pub fn print_count(n: u32) {
+pub(crate) fn print_count(n: u32) {
     io::print_decimal(1, n as u64);
 }
 
@@ -30,7 +30,7 @@ fn differ(tally: &mut [u32; 3], case: u32, what: &[u8]) {
     }
 }
 
-pub fn judge(tally: &mut [u32; 3], case: u32, what: &[u8], same: bool) {
+pub(crate) fn judge(tally: &mut [u32; 3], case: u32, what: &[u8], same: bool) {
     if same {
         tally[AGREED] = plus_one(tally[AGREED]);
     } else {
