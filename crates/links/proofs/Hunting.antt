@@ -1,25 +1,22 @@
 -- The hunt from a state's link along the chain: the next state has the byte, or is root, or is dead; else the hunt goes on from its link.
-use mathlib.Core.Path.{_≡_, refl, sym, ap, ap₂, _∙_, subst}
-use mathlib.Core.Bool.{Bool, true, false}
-use mathlib.Core.List.{List, [], _∷_, List·Memᴰ}
-use Prim.Native.Nat.{ℕ, zero, suc, _+_, _≤_, _<_}
-use native.Mathlib.Decide.{ℕ-discrete}
+use mathlib.Core.Path.{_≡_, refl, sym, ap, _∙_, subst}
+use mathlib.Core.Bool.{false}
+use mathlib.Core.List.{List, [], _∷_}
+use Prim.Native.Nat.{ℕ, suc, _<_}
 use native.Mathlib.Omega.{arith}
 use lib.Dec.{eqb}
-use lib.ListN.{length, getD, take}
+use lib.ListN.{length, getD}
 use Rattle.paper.specs.Lists.{pick, snoc}
 use Rattle.paper.specs.Patterns.{Entry, Kind}
-use Rattle.paper.specs.Automaton.{Machine, machine, isState, Link, dead, to, link}
-use Rattle.paper.proofs.Tests.{test, eqb-eq, eqb-ne, ne-eqb, eq-eqb}
-use Rattle.paper.proofs.Links.{Lawful, link-cases, failure-shorter, failure-is-state, hunts, hunts-hit, hunts-root, hunts-miss, child-rule}
+use Rattle.paper.specs.Automaton.{machine, isState, Link, dead, to, link}
+use Rattle.paper.proofs.Tests.{ne-eqb, eq-eqb}
+use Rattle.paper.proofs.Links.{Lawful, link-cases, failure-shorter, hunts, hunts-hit, hunts-root, hunts-miss}
 use Rattle.list.specs.Limits.{alphabet, mostBytes}
-use Rattle.plan.specs.Names.{has, names}
+use Rattle.plan.specs.Names.{names}
 use Rattle.plan.specs.Breadth.{Bounded}
-use Rattle.plan.proofs.Breadth.{breadth-listing, listing-before}
-use Rattle.trie.specs.Trie.{Slots, Kid, Trie}
-use Rattle.links.specs.Notes.{Notes}
-use Rattle.links.specs.Linked.{Named, Leads, Step, ordered}
-use Rattle.links.proofs.States.{agree, numbered, kid-state, kid-named, named-root, root-named}
+use Rattle.trie.specs.Trie.{Slots, Trie}
+use Rattle.links.specs.Linked.{Named, Leads, Step}
+use Rattle.links.proofs.States.{agree, kid-state, kid-named, named-root, root-named}
 
 -- what a link leads to is shorter than n
 abbrev pub Short : ℕ → Link → Type 0

@@ -1,14 +1,13 @@
 -- The children of a state by rising byte, as the slots lead from one to the next.
-use mathlib.Core.Path.{_≡_, refl, sym, ap, ap₂, _∙_, subst}
+use mathlib.Core.Path.{_≡_, refl, sym, ap, _∙_}
 use mathlib.Core.Bool.{Bool, true, false}
-use mathlib.Core.List.{List, [], _∷_, _++_, map}
+use mathlib.Core.List.{List, [], _∷_, map}
 use Prim.Native.Nat.{ℕ, zero, suc, _+_, _-_, _≤_, _<_}
 use native.Mathlib.Omega.{arith}
-use lib.ListN.{length, getD}
-use Rattle.paper.specs.Lists.{pick, snoc, those, each}
+use Rattle.paper.specs.Lists.{snoc, those, each}
 use Rattle.plan.specs.Names.{has}
 use Rattle.plan.specs.Breadth.{kidBytes, kids}
-use Rattle.trie.specs.Trie.{Kid, Least}
+use Rattle.trie.specs.Trie.{Least}
 
 -- the bytes from lo on that pass
 bytesFrom : (ℕ → Bool) → ℕ → ℕ → List ℕ

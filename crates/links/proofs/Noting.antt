@@ -1,9 +1,9 @@
 -- What the two writes of a child leave.
-use mathlib.Core.Path.{_≡_, refl, sym, ap, _∙_}
+use mathlib.Core.Path.{_≡_, refl, _∙_}
 use mathlib.Core.List.{List, [], _∷_}
 use Prim.Native.Nat.{ℕ, _<_}
 use native.Mathlib.Omega.{arith}
-use lib.ListN.{length, getD, set, length-set}
+use lib.ListN.{length, length-set}
 use Rattle.zeros.specs.Rows.{field}
 use Rattle.zeros.proofs.Rows.{field-set-same, field-set-other}
 use Rattle.trie.proofs.Inserting.{kept-field}

@@ -1,22 +1,22 @@
 -- The queue of the breadth-first order, and the links of what it holds: at place h of the order the states before it have their links, and
 -- the children of those, which stand in the queue, have theirs but for own outputs.
 use mathlib.Core.Path.{_≡_, refl, sym, ap, ap₂, _∙_, subst}
-use mathlib.Core.Bool.{Bool, true, false, not}
-use mathlib.Core.List.{List, [], _∷_, _++_, append-nil, append-assoc, List·Memᴰ, List·Memᴰ·head, List·Memᴰ·tail, List·Memᴰ·not-nil, List·Memᴰ·cases-cons, List·Memᴰ·append-cases, Memᴰ·append-left, Memᴰ·append-right}
-use mathlib.Core.Logic.{_⊎_, inl, inr, ⊎-elim}
-use Prim.Native.Nat.{ℕ, zero, suc, _+_, _-_, _≤_, _<_}
-use native.Mathlib.Decide.{decLt, ℕ-discrete}
+use mathlib.Core.Bool.{Bool, true, false}
+use mathlib.Core.List.{List, [], _∷_, _++_, append-nil, append-assoc, List·Memᴰ, List·Memᴰ·not-nil, List·Memᴰ·cases-cons, List·Memᴰ·append-cases, Memᴰ·append-left}
+use mathlib.Core.Logic.{_⊎_, ⊎-elim}
+use Prim.Native.Nat.{ℕ, suc, _+_, _-_, _≤_, _<_}
+use native.Mathlib.Decide.{ℕ-discrete}
 use native.Mathlib.Omega.{arith}
-use lib.ListN.{length, getD, take, drop, length-append, take-append-drop, List·getD-append}
-use lib.Seq.{getD-append-seam, getD-take, length-take-le, take-take, take-suc, take-all}
-use Rattle.paper.specs.Lists.{pick, snoc, isNil, Sorted}
+use lib.ListN.{length, getD, take, drop, length-append, take-append-drop}
+use lib.Seq.{getD-append-seam, getD-take, take-take, take-suc, take-all}
+use Rattle.paper.specs.Lists.{snoc}
 use Rattle.paper.specs.Patterns.{Entry, Kind}
-use Rattle.paper.specs.Automaton.{Machine, machine, isState, ownOf, Link, dead, to, link}
+use Rattle.paper.specs.Automaton.{isState, link}
 use Rattle.paper.proofs.Tests.{clash}
 use Rattle.paper.proofs.Links.{Lawful, ruled}
 use Rattle.list.specs.Limits.{alphabet, mostBytes}
-use Rattle.plan.specs.Names.{has, names}
-use Rattle.plan.specs.Breadth.{kids, below, breadth, Bounded, Apart}
+use Rattle.plan.specs.Names.{names}
+use Rattle.plan.specs.Breadth.{kids, below, Bounded, Apart}
 use Rattle.plan.proofs.Breadth.{breadth-below, breadth-exact, breadth-once, below-take-suc, begun-is, begun-length, begun-ends}
 use Rattle.plan.proofs.Lists.{get-member, sorted-take}
 use Rattle.trie.specs.Trie.{Slots, Kid, Least, Trie}

@@ -1,26 +1,25 @@
 -- The breadth-first order as a whole: before the first turn, between two turns, and after the last.
-use mathlib.Core.Path.{_≡_, refl, sym, ap, _∙_, subst}
-use mathlib.Core.Bool.{Bool, true, false}
-use mathlib.Core.List.{List, [], _∷_, _++_, List·Memᴰ}
-use Prim.Native.Nat.{ℕ, zero, suc, _+_, _≤_, _<_}
+use mathlib.Core.Path.{_≡_, sym, ap, _∙_, subst}
+use mathlib.Core.List.{List, []}
+use Prim.Native.Nat.{ℕ, suc, _≤_, _<_}
 use native.Mathlib.Omega.{arith}
 use lib.ListN.{length, getD, take, length-append}
 use lib.Seq.{getD-take, length-take-le}
 use Rattle.paper.specs.Patterns.{Entry, Kind}
-use Rattle.paper.specs.Automaton.{machine, isState, link}
+use Rattle.paper.specs.Automaton.{machine, isState}
 use Rattle.paper.proofs.Links.{ruled}
 use Rattle.zeros.specs.Rows.{field}
 use Rattle.list.specs.Limits.{alphabet, mostBytes}
 use Rattle.plan.specs.Names.{names}
-use Rattle.plan.specs.Breadth.{kids, below}
+use Rattle.plan.specs.Breadth.{kids}
 use Rattle.plan.proofs.Lists.{get-member}
 use Rattle.plan.proofs.Breadth.{breadth-below}
 use Rattle.trie.specs.Trie.{slotsOf}
 use Rattle.links.specs.Notes.{Notes, notesOf}
-use Rattle.links.specs.Linked.{Named, Leads, ordered, Linked}
-use Rattle.links.specs.Queue.{begun, Queued, Final, Ready, Turn, Poised}
+use Rattle.links.specs.Linked.{Named, ordered, Linked}
+use Rattle.links.specs.Queue.{begun, Queued, Ready, Turn, Poised}
 use Rattle.links.proofs.States.{root-named}
-use Rattle.links.proofs.Queue.{take-more, later-not, in-order, begun-fits, begun-next, final-next, queued-root, queued-all}
+use Rattle.links.proofs.Queue.{later-not, in-order, begun-next, final-next, queued-root, queued-all}
 use Rattle.links.proofs.Walking.{order-fits}
 use Rattle.links.proofs.Turning.{bounded, laws}
 

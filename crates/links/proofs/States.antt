@@ -1,19 +1,19 @@
 -- Numbers and strings: what the names, the states and the trie's children say of each other.
-use mathlib.Core.Path.{_≡_, refl, sym, ap, ap₂, _∙_, subst}
-use mathlib.Core.Bool.{Bool, true, false}
-use mathlib.Core.List.{List, [], _∷_, _++_}
-use Prim.Native.Nat.{ℕ, zero, suc, _+_, _≤_, _<_}
+use mathlib.Core.Path.{_≡_, sym, ap, _∙_, subst}
+use mathlib.Core.Bool.{true, false}
+use mathlib.Core.List.{List, [], _∷_}
+use Prim.Native.Nat.{ℕ, _<_}
 use native.Mathlib.Omega.{arith}
 use lib.ListN.{length, getD}
 use Rattle.paper.specs.Lists.{same, snoc}
 use Rattle.paper.specs.Patterns.{Entry}
 use Rattle.paper.specs.Automaton.{isState}
-use Rattle.paper.proofs.Tests.{clash, not-true→false}
+use Rattle.paper.proofs.Tests.{not-true→false}
 use Rattle.paper.proofs.Strings.{same-eq, snoc-byte}
 use Rattle.list.specs.Limits.{alphabet, mostBytes}
 use Rattle.plan.specs.Names.{has, names, Distinct}
 use Rattle.plan.specs.Breadth.{Bounded}
-use Rattle.plan.proofs.Names.{Index, index, has-at, has-names}
+use Rattle.plan.proofs.Names.{index, has-at, has-names}
 use Rattle.trie.specs.Trie.{Slots, Kid, Trie}
 use Rattle.trie.proofs.Making.{names-cover}
 use Rattle.links.specs.Linked.{Named}

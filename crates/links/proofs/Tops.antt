@@ -1,17 +1,14 @@
 -- Root's children by byte, and a state's child by way of them.
 use mathlib.Core.Path.{_≡_, refl, sym, ap, _∙_, subst}
-use mathlib.Core.Bool.{Bool, true, false}
-use mathlib.Core.List.{List, [], _∷_}
-use Prim.Native.Nat.{ℕ, zero, suc, _≤_, _<_}
+use mathlib.Core.List.{List, []}
+use Prim.Native.Nat.{ℕ, suc, _≤_, _<_}
 use native.Mathlib.Decide.{decLt, ℕ-discrete}
 use native.Mathlib.Omega.{arith}
 use lib.ListN.{length, getD, set, length-set}
 use lib.Seq.{getD-set-same, getD-set-other}
-use Rattle.paper.specs.Lists.{snoc}
 use Rattle.list.specs.Limits.{alphabet}
 use Rattle.zeros.specs.Rows.{zeros}
 use Rattle.zeros.proofs.Rows.{getD-zeros}
-use Rattle.plan.specs.Names.{has}
 use Rattle.trie.specs.Trie.{Slots, Kid, Least, Trie, Gap}
 use Rattle.trie.proofs.Seeking.{least-label, least-kid, least-next}
 use Rattle.links.specs.Linked.{Step}

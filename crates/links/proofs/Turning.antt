@@ -1,27 +1,23 @@
 -- The turn of a state, from what a caller shows: its laws, whether it stops, and its children.
-use mathlib.Core.Path.{_≡_, refl, sym, ap, _∙_, subst}
+use mathlib.Core.Path.{_≡_, refl, _∙_, subst}
 use mathlib.Core.Bool.{Bool, true, false, not, _&&_}
-use mathlib.Core.List.{List, [], _∷_}
-use Prim.Native.Nat.{ℕ, zero, suc, _+_, _≤_, _<_}
-use native.Mathlib.Omega.{arith}
+use mathlib.Core.List.{List, []}
+use Prim.Native.Nat.{ℕ}
 use lib.Dec.{eqb}
-use lib.ListN.{length, getD, take}
-use Rattle.paper.specs.Lists.{snoc, isNil}
+use lib.ListN.{getD}
+use Rattle.paper.specs.Lists.{isNil}
 use Rattle.paper.specs.Patterns.{Entry, Kind, standard, leftmost}
-use Rattle.paper.specs.Automaton.{Machine, machine, isState, ownOf, stopsOf, Link, dead, to, link}
+use Rattle.paper.specs.Automaton.{machine, isState, ownOf, stopsOf}
 use Rattle.paper.proofs.Tests.{ne-eqb, eq-eqb}
-use Rattle.paper.proofs.Links.{Lawful, ruled}
+use Rattle.paper.proofs.Links.{Lawful}
 use Rattle.paper.proofs.Machines.{lawful}
 use Rattle.list.specs.Limits.{alphabet, mostBytes}
 use Rattle.plan.specs.Names.{names}
 use Rattle.plan.specs.Breadth.{Bounded}
 use Rattle.plan.proofs.Machines.{machine-bounded}
-use Rattle.plan.proofs.Breadth.{breadth-below, breadth-fits}
-use Rattle.trie.specs.Trie.{Slots, slotsOf, Trie}
-use Rattle.links.specs.Notes.{Notes, notesOf}
-use Rattle.links.specs.Linked.{Named, Leads, ordered, isLeftmost}
-use Rattle.links.specs.Queue.{Queued, Final, Ready, Turn, Poised}
-use Rattle.links.proofs.States.{numbered, root-named}
+use Rattle.trie.specs.Trie.{slotsOf}
+use Rattle.links.specs.Linked.{ordered, isLeftmost}
+use Rattle.links.specs.Queue.{Ready, Turn}
 
 module _ {kind : Kind} {es : List Entry} {rows : List (List ℕ)} {room : ℕ} (R : Ready kind es rows room) where
   pub bounded : Bounded alphabet mostBytes (isState es)
@@ -36,9 +32,6 @@ stops-told standard es w b e = refl
 stops-told (leftmost c) es w b e = rw e
 
 module _ {kind : Kind} {es : List Entry} {trie notes : List (List ℕ)} {s h tail : ℕ} (T : Turn kind es trie notes s h tail) where
-  pub turn-inside : s < length (names alphabet es)
-  turn-inside = T .named .inside
-
   stops-is : stopsOf kind es (getD (ordered es) h []) ≡ (isLeftmost kind && not (eqb (slotsOf trie .own s) 0))
   stops-is =
       subst (λ (w : List ℕ). stopsOf kind es w ≡ (isLeftmost kind && not (eqb (slotsOf trie .own s) 0))) (T .named .is)

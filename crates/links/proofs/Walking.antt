@@ -1,30 +1,29 @@
 -- The walk over the children of the state whose turn it is: what the two loops over children and the hunt inside need of each other.
-use mathlib.Core.Path.{_≡_, refl, sym, ap, ap₂, _∙_, subst}
-use mathlib.Core.Bool.{Bool, true, false}
-use mathlib.Core.List.{List, [], _∷_, List·Memᴰ, Memᴰ·append-left, Memᴰ·append-right, List·Memᴰ·head}
-use Prim.Native.Nat.{ℕ, zero, suc, _+_, _≤_, _<_}
+use mathlib.Core.Path.{_≡_, refl, sym, ap, _∙_, subst}
+use mathlib.Core.Bool.{true, false}
+use mathlib.Core.List.{List, [], _∷_, List·Memᴰ, Memᴰ·append-right, List·Memᴰ·head}
+use Prim.Native.Nat.{ℕ, suc, _+_, _≤_, _<_}
 use native.Mathlib.Omega.{arith}
 use lib.ListN.{length, getD, take}
 use lib.Seq.{take-suc}
 use Rattle.paper.specs.Lists.{snoc}
 use Rattle.paper.specs.Patterns.{Entry, Kind}
-use Rattle.paper.specs.Automaton.{Machine, machine, isState, Link, dead, to, link}
-use Rattle.paper.proofs.Links.{Lawful, ruled, hunts, child-rule}
+use Rattle.paper.specs.Automaton.{machine, isState, Link, link}
+use Rattle.paper.proofs.Links.{ruled, hunts, child-rule}
 use Rattle.zeros.specs.Rows.{field}
 use Rattle.list.specs.Limits.{alphabet, mostBytes}
 use Rattle.plan.specs.Names.{names}
-use Rattle.plan.specs.Breadth.{Bounded}
-use Rattle.plan.proofs.Names.{Index, index}
+use Rattle.plan.proofs.Names.{index}
 use Rattle.plan.proofs.Lists.{get-member}
 use Rattle.plan.proofs.Breadth.{breadth-listing, breadth-fits, listing-before}
-use Rattle.trie.specs.Trie.{Slots, slotsOf, Trie}
+use Rattle.trie.specs.Trie.{slotsOf}
 use Rattle.trie.proofs.Seeking.{least-inside, least-kid}
 use Rattle.trie.proofs.Making.{names-cover}
 use Rattle.links.specs.Notes.{Notes, notesOf}
 use Rattle.links.specs.Linked.{Named, Leads, Step, ordered}
-use Rattle.links.specs.Queue.{Queued, Final, Ready, Turn, Poised, Noted, Tops}
+use Rattle.links.specs.Queue.{Queued, Ready, Poised, Noted, Tops}
 use Rattle.links.proofs.States.{numbered, root-named, named-root}
-use Rattle.links.proofs.Queue.{Linking, take-more, in-order, linking-open, linking-more, linking-close, end-inside, next-state, begun-fits}
+use Rattle.links.proofs.Queue.{Linking, take-more, in-order, linking-open, linking-more, linking-close, end-inside, next-state}
 use Rattle.links.proofs.Hunting.{Hunting, hunting, At, is-dead, not-dead, found-child, found-root, hunt-on, chainLeft}
 use Rattle.links.proofs.Turning.{bounded, laws}
 

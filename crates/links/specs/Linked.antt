@@ -1,15 +1,15 @@
 -- The breadth-first order and the links, in the names of the states.
 use mathlib.Core.Path.{_≡_}
 use mathlib.Core.Bool.{Bool, true, false}
-use mathlib.Core.List.{List, [], _∷_, List·Memᴰ}
-use Prim.Native.Nat.{ℕ, suc, _≤_, _<_}
-use lib.ListN.{length, getD, take}
+use mathlib.Core.List.{List, []}
+use Prim.Native.Nat.{ℕ, _<_}
+use lib.ListN.{length, getD}
 use Rattle.paper.specs.Lists.{snoc}
 use Rattle.paper.specs.Patterns.{Entry, Kind, standard, leftmost}
-use Rattle.paper.specs.Automaton.{Machine, machine, isState, Link, dead, to, link}
+use Rattle.paper.specs.Automaton.{machine, isState, Link, dead, to, link}
 use Rattle.list.specs.Limits.{alphabet, mostBytes}
 use Rattle.plan.specs.Names.{has, names}
-use Rattle.plan.specs.Breadth.{below, breadth}
+use Rattle.plan.specs.Breadth.{breadth}
 use Rattle.trie.specs.Trie.{Kid}
 use Rattle.links.specs.Notes.{Notes}
 

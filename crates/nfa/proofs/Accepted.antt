@@ -1,16 +1,15 @@
 -- What the accepted patterns of a sound list have, as the tables ask it.
 use mathlib.Core.Path.{_≡_, refl, sym, ap, _∙_, subst}
 use mathlib.Core.Bool.{Bool, true, false, _&&_}
-use mathlib.Core.List.{List, [], _∷_, _++_, List·Memᴰ, List·Memᴰ·not-nil, List·Memᴰ·cases-cons}
+use mathlib.Core.List.{List, [], _∷_, List·Memᴰ, List·Memᴰ·not-nil, List·Memᴰ·cases-cons}
 use mathlib.Core.Logic.{⊎-elim}
 use mathlib.Core.Option.{Option}
 use Prim.Native.Nat.{ℕ, zero, suc, _+_, _*_, _≤_, _<_}
 use native.Mathlib.Decide.{decLt}
 use native.Mathlib.Omega.{arith}
 use lib.Dec.{ltb}
-use lib.ListN.{length, getD, length-append}
-use Rattle.paper.specs.Lists.{pick}
-use Rattle.paper.specs.Patterns.{Entry, Kind, rows, rowsFrom, accepted, barred, Proper}
+use lib.ListN.{length, length-append}
+use Rattle.paper.specs.Patterns.{Entry, rows, rowsFrom, accepted, barred, Proper}
 use Rattle.paper.proofs.Tests.{test, lt-ltb, ltb-lt, ltb-le, le-ltb}
 use Rattle.paper.proofs.Acceptance.{rows-from, accepted-listed, proper}
 use Rattle.list.specs.Limits.{alphabet, mostListed, mostBytes}
@@ -35,7 +34,7 @@ use Rattle.links.specs.Notes.{notesOf}
 use Rattle.links.specs.Linked.{Linked}
 use Rattle.links.specs.Queue.{Ready}
 use Rattle.outputs.specs.Placed.{Tabled}
-use Rattle.nfa.specs.Built.{acceptedOf, numberOf, smaller, counted, Caused}
+use Rattle.nfa.specs.Built.{acceptedOf, numberOf, smaller, counted}
 
 -- ---- kinds by their numbers
 

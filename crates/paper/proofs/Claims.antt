@@ -1,10 +1,9 @@
 -- All claims hold: each field cites the law that proves it.
-use mathlib.Core.Path.{_≡_, refl, sym, ap, _∙_}
-use mathlib.Core.Bool.{Bool, true, false}
+use mathlib.Core.Path.{_≡_, refl, ap, _∙_}
+use mathlib.Core.Bool.{Bool}
 use mathlib.Core.List.{List, [], _∷_, map}
-use Prim.Native.Nat.{ℕ, zero, suc, _≤_}
+use Prim.Native.Nat.{ℕ, suc, _≤_}
 use lib.ListN.{length, take, drop}
-use Rattle.paper.specs.Lists.{pick}
 use Rattle.paper.specs.Patterns.{Entry, standard}
 use Rattle.paper.specs.Matches.{ByEnd, Leftmost, endingAt}
 use Rattle.paper.specs.Automaton.{machine, isState, longestState, output, endAt, fresh, walk, never}

@@ -1,19 +1,17 @@
 -- What ends at a place, from both sides: the own outputs of the suffixes of what was read, and the occurrences that end there.
 use mathlib.Core.Path.{_≡_, refl, sym, ap, ap₂, _∙_, subst}
-use mathlib.Core.Bool.{Bool, true, false, _&&_}
-use mathlib.Core.List.{List, [], _∷_, _++_, map, map-append, append-assoc, append-nil, List·Memᴰ, List·Memᴰ·append-cases, List·Memᴰ·not-nil, Memᴰ·of-map}
-use mathlib.Core.Logic.{_⊎_, ⊎-elim}
-use Prim.Native.Nat.{ℕ, zero, suc, _+_, _-_, _≤_, _<_}
-use native.Mathlib.Nat.{not-suc-le-zero}
+use mathlib.Core.Bool.{Bool, true, _&&_}
+use mathlib.Core.List.{List, [], _∷_, _++_, map, map-append, append-assoc}
+use Prim.Native.Nat.{ℕ, zero, suc, _+_, _-_, _≤_}
 use native.Mathlib.Omega.{arith}
 use native.Mathlib.Numerals.{add-one}
 use lib.Dec.{eqb}
 use lib.ListN.{length, take, drop, length-take, length-drop, take-append-drop}
 use lib.Seq.{take-add, drop-at, length-take-le, take-append-seam, drop-drop}
-use Rattle.paper.specs.Lists.{pick, same, prefix, those, each}
-use Rattle.paper.specs.Patterns.{Entry, Kind, standard}
+use Rattle.paper.specs.Lists.{same, prefix, those, each}
+use Rattle.paper.specs.Patterns.{Entry, standard}
 use Rattle.paper.specs.Matches.{occurs, Found, foundAt, between, endingAt}
-use Rattle.paper.specs.Automaton.{Machine, machine, ownOf, stopsOf, starts, endAt}
+use Rattle.paper.specs.Automaton.{machine, ownOf, endAt}
 use Rattle.paper.proofs.Tests.{test, true-both, and-left, and-right, and-both, eqb-eq, eq-eqb}
 use Rattle.paper.proofs.Strings.{same-eq, eq-same, prefix-append, prefix-rest}
 use Rattle.paper.proofs.Machines.{never-starts}

@@ -3,18 +3,18 @@
 -- kept, shows that all others start later.
 use mathlib.Core.Path.{_≡_, refl, sym, ap, ap₂, _∙_, subst}
 use mathlib.Core.Bool.{Bool, true, false, not, _&&_}
-use mathlib.Core.List.{List, [], _∷_, _++_, append-nil, cons≢nil, List·Memᴰ, List·Memᴰ·head, List·Memᴰ·tail, List·Memᴰ·cases-cons, List·Memᴰ·not-nil}
+use mathlib.Core.List.{List, [], _∷_, _++_, append-nil, List·Memᴰ, List·Memᴰ·head, List·Memᴰ·cases-cons, List·Memᴰ·not-nil}
 use mathlib.Core.Logic.{_⊎_, inl, inr, ⊎-elim}
 use mathlib.Core.Option.{Option, none, some}
-use Prim.Native.Nat.{ℕ, zero, suc, _+_, _-_, _≤_, _<_}
+use Prim.Native.Nat.{ℕ, suc, _+_, _-_, _≤_, _<_}
 use native.Mathlib.Decide.{decLt}
 use native.Mathlib.Omega.{arith}
-use lib.ListN.{length, drop, length-append, length-drop, drop-of-length-le}
+use lib.ListN.{length, drop, length-drop}
 use lib.Seq.{drop-append-le}
-use Rattle.paper.specs.Lists.{pick, same, prefix, snoc, isNil, those, Sorted}
+use Rattle.paper.specs.Lists.{pick, same, prefix, snoc, isNil, Sorted}
 use Rattle.paper.specs.Patterns.{Entry, Choice, leftmost, Proper}
 use Rattle.paper.specs.Matches.{occurs, Found, foundAt, ByLength}
-use Rattle.paper.specs.Automaton.{Machine, machine, isState, ownOf, stopsOf, longestState, starts, before, chain, output, endAt, Walk, step, keeping, isSome, Given, giving, saysNext}
+use Rattle.paper.specs.Automaton.{Machine, machine, isState, ownOf, longestState, before, chain, output, endAt, Walk, step, keeping, isSome, Given, giving, saysNext}
 use Rattle.paper.proofs.Tests.{test, clash, or-left, or-right}
 use Rattle.paper.proofs.Strings.{same-eq, same-refl, prefix-refl, prefix-append, prefix-length, prefix-of, prefix-same, prefix-trans, snoc-append, length-snoc}
 use Rattle.paper.proofs.Order.{in-those, to-those, sorted-those}

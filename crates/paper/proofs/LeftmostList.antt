@@ -1,15 +1,14 @@
 -- (E) The leftmost walk, a call after the other, gives the leftmost list of both kinds.
 use mathlib.Core.Path.{_≡_, refl, sym, ap, _∙_, subst}
-use mathlib.Core.Bool.{Bool, true, false}
-use mathlib.Core.List.{List, [], _∷_}
+use mathlib.Core.List.{List, []}
 use mathlib.Core.Option.{Option, none, some}
 use Prim.Native.Nat.{ℕ, zero, suc, _+_, _-_, _≤_, _<_}
 use native.Mathlib.Omega.{arith}
-use lib.ListN.{length, drop, length-drop}
+use lib.ListN.{length, drop}
 use lib.Seq.{drop-drop}
 use Rattle.paper.specs.Patterns.{Entry, Choice, leftmost, longest, first, accepted, Filled, Proper}
-use Rattle.paper.specs.Matches.{occurs, Found, foundAt, Stands, ByLength, Best, Chosen, leftmostBy}
-use Rattle.paper.specs.Automaton.{Machine, machine, isState, longestState, before, saysNext, Leftmosts, onGiven, saysLeftmost}
+use Rattle.paper.specs.Matches.{occurs, Found, foundAt, Stands, ByLength, Chosen, leftmostBy}
+use Rattle.paper.specs.Automaton.{Machine, machine, longestState, before, saysNext, onGiven, saysLeftmost}
 use Rattle.paper.proofs.Order.{by-length-asymmetric}
 use Rattle.paper.proofs.Occurrences.{stands-bounds, chosen-unique, leftmost-is}
 use Rattle.paper.proofs.Acceptance.{proper, longest-is-first}

@@ -1,19 +1,17 @@
 -- The hunt and the links of all kinds at once: Standard is the machine that stops nowhere. The closed form of dead links meets
 -- document 01's rules, and nothing else does.
-use mathlib.Core.Path.{_≡_, refl, sym, ap, ap₂, _∙_, subst}
+use mathlib.Core.Path.{_≡_, refl, sym, ap, _∙_}
 use mathlib.Core.Bool.{Bool, true, false, _||_, or-assoc, or-false, or-true}
-use mathlib.Core.List.{List, [], _∷_, _++_, append-nil, cons≢nil}
-use mathlib.Core.Logic.{_⊎_, inl, inr, ⊎-elim}
-use Prim.Native.Nat.{ℕ, zero, suc, _+_, _≤_, _<_}
+use mathlib.Core.List.{List, [], _∷_, _++_, append-nil}
+use Prim.Native.Nat.{ℕ, zero, suc, _+_, _≤_}
 use native.Mathlib.Nat.{not-suc-le-zero}
 use native.Mathlib.Omega.{arith}
 use lib.ListN.{length}
 use Rattle.paper.specs.Lists.{pick, snoc}
-use Rattle.paper.specs.Patterns.{Entry}
-use Rattle.paper.specs.Automaton.{Machine, longestState, failure, Link, dead, to, begins, starts, before, isDead, link, Hunt, along, followed, atRoot, hunt, Rules}
+use Rattle.paper.specs.Automaton.{Machine, longestState, failure, Link, dead, to, begins, starts, before, isDead, link, Hunt, along, atRoot, hunt, Rules}
 use Rattle.paper.proofs.Tests.{test, clash, or-right, or-left}
 use Rattle.paper.proofs.Strings.{snoc-append, length-snoc}
-use Rattle.paper.proofs.Longest.{States, longest-of, longest-length, longest-step, longest-is-state, not-longer}
+use Rattle.paper.proofs.Longest.{States, longest-length, longest-step, longest-is-state, not-longer}
 
 -- what the laws below ask of a machine
 pub record Lawful (M : Machine) : Type 0 where
@@ -43,10 +41,6 @@ module _ (stops : List ℕ → Bool) where
 
   pub starts-snoc : (w : List ℕ) (c : ℕ) → starts stops (snoc w c) ≡ (starts stops w || stops (snoc w c))
   starts-snoc w c = begins-snoc [] w c ∙ rw (onto-is [] (snoc w c))
-
-  pub starts-root : stops [] ≡ false → starts stops [] ≡ false
-  unfolding begins
-  starts-root z = z
 
 -- ---- a string's last byte
 

@@ -1,11 +1,11 @@
 -- The longest suffix that is a state, over any set of states that is closed under prefixes. Nothing here knows patterns.
-use mathlib.Core.Path.{_≡_, refl, sym, ap, _∙_}
+use mathlib.Core.Path.{_≡_, refl}
 use mathlib.Core.Bool.{Bool, true, false}
 use mathlib.Core.List.{List, [], _∷_}
-use Prim.Native.Nat.{ℕ, zero, suc, _≤_}
+use Prim.Native.Nat.{ℕ, _≤_}
 use native.Mathlib.Omega.{arith}
 use lib.ListN.{length}
-use Rattle.paper.specs.Lists.{pick, snoc}
+use Rattle.paper.specs.Lists.{snoc}
 use Rattle.paper.specs.Automaton.{longestState}
 use Rattle.paper.proofs.Tests.{test, clash}
 

@@ -1,16 +1,15 @@
 -- The automaton of a list of patterns meets the laws, whatever its kind.
-use mathlib.Core.Path.{_≡_, refl, sym, ap, _∙_}
-use mathlib.Core.Bool.{Bool, true, false, not, _||_}
+use mathlib.Core.Path.{_≡_, refl, ap}
+use mathlib.Core.Bool.{true, false}
 use mathlib.Core.List.{List, [], _∷_, List·Memᴰ, List·Memᴰ·head, List·Memᴰ·tail}
 use mathlib.Core.Logic.{⊎-elim}
-use Prim.Native.Nat.{ℕ, zero, suc, _<_}
-use native.Mathlib.Nat.{not-suc-le-zero}
+use Prim.Native.Nat.{ℕ, _<_}
 use native.Mathlib.Omega.{arith}
 use lib.ListN.{length}
-use Rattle.paper.specs.Lists.{pick, same, prefix, snoc, isNil, those}
+use Rattle.paper.specs.Lists.{same, prefix, snoc, those}
 use Rattle.paper.specs.Patterns.{Entry, Kind, standard, leftmost, Proper}
-use Rattle.paper.specs.Automaton.{Machine, machine, isState, ownOf, stopsOf, begins, starts, before}
-use Rattle.paper.proofs.Tests.{test, clash, or-left, or-right, or-cases, or-not-left, or-not-right, not-true→false}
+use Rattle.paper.specs.Automaton.{machine, isState, ownOf, stopsOf, begins, starts, before}
+use Rattle.paper.proofs.Tests.{test, clash, or-left, or-right, or-cases, or-not-left, or-not-right}
 use Rattle.paper.proofs.Strings.{same-eq, prefix-refl, prefix-trans, prefix-snoc}
 use Rattle.paper.proofs.Longest.{States}
 use Rattle.paper.proofs.Links.{Lawful}

@@ -1,6 +1,6 @@
 -- The count of moves (C): a link makes the state shorter, a byte makes it longer by one at most. So after k bytes the moves and the
 -- state's length together are at most 2k, and the moves alone at most 2k - 1; to begin again at root only helps.
-use mathlib.Core.Path.{_≡_, refl, sym, ap, _∙_}
+use mathlib.Core.Path.{_≡_}
 use mathlib.Core.Bool.{Bool, true, false}
 use mathlib.Core.List.{List, [], _∷_}
 use Prim.Native.Nat.{ℕ, zero, suc, _+_, _*_, _-_, _≤_}
@@ -8,7 +8,7 @@ use native.Mathlib.Nat.{not-suc-le-zero}
 use native.Mathlib.Omega.{arith}
 use lib.ListN.{length}
 use Rattle.paper.specs.Lists.{pick, snoc}
-use Rattle.paper.specs.Automaton.{Machine, longestState, failure, Link, dead, to, isDead, link, Hunt, atRoot, hunt, landed, Walk, fresh, step, walk}
+use Rattle.paper.specs.Automaton.{Machine, longestState, failure, isDead, link, Hunt, atRoot, hunt, landed, Walk, fresh, step, walk}
 use Rattle.paper.proofs.Tests.{test}
 use Rattle.paper.proofs.Strings.{length-snoc}
 use Rattle.paper.proofs.Longest.{longest-length}

@@ -1,6 +1,6 @@
 -- What a state's chain puts out, for all kinds at once: own outputs of the string and of its suffixes, longest first, up to a
 -- suffix at whose head a stopping string starts. Standard stops nowhere, so there it is every suffix.
-use mathlib.Core.Path.{_≡_, refl, sym, ap, _∙_}
+use mathlib.Core.Path.{_≡_, refl, sym, _∙_}
 use mathlib.Core.Bool.{Bool, true, false, _||_}
 use mathlib.Core.List.{List, [], _∷_, _++_}
 use Prim.Native.Nat.{ℕ, zero, suc, _≤_}

@@ -1,17 +1,17 @@
 -- (D) The walk of Standard, begun again at root after each match, gives the plain list.
-use mathlib.Core.Path.{_≡_, refl, sym, ap, ap₂, _∙_, subst}
-use mathlib.Core.Bool.{Bool, true, false, _&&_}
+use mathlib.Core.Path.{_≡_, refl, sym, ap, _∙_, subst}
+use mathlib.Core.Bool.{_&&_}
 use mathlib.Core.List.{List, [], _∷_, _++_, map, append-assoc, append-nil, List·Memᴰ, List·Memᴰ·head, List·Memᴰ·tail, List·Memᴰ·append-cases, List·Memᴰ·not-nil, Memᴰ·of-map}
 use mathlib.Core.Logic.{⊎-elim}
 use Prim.Native.Nat.{ℕ, zero, suc, _+_, _≤_, _<_}
 use native.Mathlib.Omega.{arith}
 use lib.Dec.{eqb}
-use lib.ListN.{length, take, drop, length-append}
+use lib.ListN.{length, drop, length-append}
 use lib.Seq.{take-append-seam, drop-append-seam}
-use Rattle.paper.specs.Lists.{pick, snoc, those, each}
+use Rattle.paper.specs.Lists.{snoc, those, each}
 use Rattle.paper.specs.Patterns.{Entry, standard}
 use Rattle.paper.specs.Matches.{occurs, Found, foundAt, between, endingAt, byEnd, apart, plain}
-use Rattle.paper.specs.Automaton.{Machine, machine, isState, longestState, output, endAt, Walk, fresh, step, onFirst, saysPlain}
+use Rattle.paper.specs.Automaton.{machine, isState, longestState, output, endAt, Walk, fresh, step, onFirst, saysPlain}
 use Rattle.paper.proofs.Tests.{le-leb, lt-leb}
 use Rattle.paper.proofs.Strings.{snoc-append, length-snoc}
 use Rattle.paper.proofs.Outputs.{endings}

@@ -1,8 +1,8 @@
 -- What the tests of the leftmost kinds say: where stopping strings lie in a string, and which of them its chain puts out first.
 use mathlib.Core.Path.{_≡_, refl, sym, ap, _∙_, subst}
-use mathlib.Core.Bool.{Bool, true, false, not, _||_}
+use mathlib.Core.Bool.{Bool, true, false, not}
 use mathlib.Core.List.{List, [], _∷_, _++_, nil≢cons, cons≢nil, head-eq-of-cons-eq}
-use mathlib.Core.Logic.{_⊎_, inl, inr, ⊎-elim}
+use mathlib.Core.Logic.{_⊎_, ⊎-elim}
 use Prim.Native.Nat.{ℕ, zero, suc, _+_, _≤_, _<_}
 use native.Mathlib.Nat.{not-suc-le-zero}
 use native.Mathlib.Omega.{arith}
@@ -12,7 +12,7 @@ use Rattle.paper.specs.Lists.{pick, prefix, snoc, isNil}
 use Rattle.paper.specs.Patterns.{Entry}
 use Rattle.paper.specs.Matches.{occurs}
 use Rattle.paper.specs.Automaton.{Machine, longestState, begins, starts, before}
-use Rattle.paper.proofs.Tests.{test, clash, or-left, or-right, or-cases, or-not-left, or-not-right}
+use Rattle.paper.proofs.Tests.{test, clash, or-left, or-right, or-cases}
 use Rattle.paper.proofs.Strings.{prefix-refl, prefix-trans, prefix-snoc, prefix-cases, prefix-same, by-snoc}
 use Rattle.paper.proofs.Longest.{longest-length}
 use Rattle.paper.proofs.Links.{starts-snoc}
@@ -99,9 +99,6 @@ pub record Covered (M : Machine) (u : List ℕ) (o : ℕ) : Type 0 where
   pub own : M .own (drop offset u) ≡ []
 
 module _ (M : Machine) (stops-own : (s : List ℕ) → M .stops s ≡ not (isNil (M .own s))) where
-  stopping-own : (s : List ℕ) (x : Entry) (xs : List Entry) → M .own s ≡ x ∷ xs → M .stops s ≡ true
-  stopping-own s x xs e = stops-own s ∙ rw e
-
   -- what leads in a tail leads in the whole, unless something starts at the whole's head
   leading-tail : (c : ℕ) (u : List ℕ) (x : Entry) → starts (M .stops) (c ∷ u) ≡ false → Leading M u x → Leading M (c ∷ u) x
   leading-tail c u x h r =

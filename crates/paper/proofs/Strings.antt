@@ -1,16 +1,16 @@
 -- Laws of strings: the same, a prefix, one byte more.
-use mathlib.Core.Path.{_≡_, refl, sym, ap, ap₂, _∙_, subst}
-use mathlib.Core.Bool.{Bool, true, false, _&&_, true≢false, false≢true}
+use mathlib.Core.Path.{_≡_, refl, sym, ap, ap₂, _∙_}
+use mathlib.Core.Bool.{true, false≢true}
 use mathlib.Core.List.{List, [], _∷_, _++_, append-assoc, append-nil, head-eq-of-cons-eq, tail-eq-of-cons-eq}
 use mathlib.Core.Logic.{_⊎_, inl, inr}
-use Prim.Native.Nat.{ℕ, zero, suc, _+_, _≤_, _<_}
+use Prim.Native.Nat.{ℕ, suc, _+_, _≤_}
 use native.Mathlib.Nat.{not-suc-le-zero}
 use native.Mathlib.Decide.{decLt}
 use native.Mathlib.Omega.{arith}
 use lib.Dec.{eqb}
 use lib.ListN.{length, length-append}
-use Rattle.paper.specs.Lists.{pick, same, prefix, snoc}
-use Rattle.paper.proofs.Tests.{test, eqb-eq, eq-eqb, and-left, and-right, and-both}
+use Rattle.paper.specs.Lists.{same, prefix, snoc}
+use Rattle.paper.proofs.Tests.{eqb-eq, eq-eqb, and-left, and-right, and-both}
 
 abbrev cons : ℕ → List ℕ → List ℕ
 cons x xs = x ∷ xs

@@ -1,7 +1,7 @@
 -- What is proved of the definitions: each claim with its English above it. The proofs stand in ../proofs; `claims` there has them all.
 use mathlib.Core.Path.{_≡_}
 use mathlib.Core.Bool.{Bool, true, false}
-use mathlib.Core.List.{List, [], _∷_, map, List·Memᴰ}
+use mathlib.Core.List.{List, map, List·Memᴰ}
 use mathlib.Core.Logic.{_↔_}
 use Prim.Native.Nat.{ℕ, suc, _*_, _-_, _≤_, _<_}
 use lib.ListN.{length, take, drop}

@@ -1,10 +1,10 @@
 -- The lists of matches by plain occurrence, and for each list the sentence that it must meet. Nothing here knows of an
 -- automaton: a reader who has never seen one can check it.
 use mathlib.Core.Path.{_≡_}
-use mathlib.Core.Bool.{Bool, true, false, _&&_}
+use mathlib.Core.Bool.{Bool, true, _&&_}
 use mathlib.Core.List.{List, [], _∷_, map, List·Memᴰ}
 use mathlib.Core.Logic.{_⊎_, _↔_}
-use Prim.Native.Nat.{ℕ, zero, suc, _+_, _-_, _≤_, _<_}
+use Prim.Native.Nat.{ℕ, _+_, _-_, _≤_, _<_}
 use lib.Dec.{eqb, leb}
 use lib.ListN.{length, drop}
 use Rattle.paper.specs.Lists.{pick, prefix, those, each, Sorted}

@@ -1,7 +1,7 @@
 -- The pattern list and what is accepted of it. Nothing here knows of an automaton.
-use mathlib.Core.Bool.{Bool, true, false, _&&_, _||_}
+use mathlib.Core.Bool.{Bool, false, _&&_, _||_}
 use mathlib.Core.List.{List, [], _∷_, List·Memᴰ}
-use Prim.Native.Nat.{ℕ, zero, suc, _<_}
+use Prim.Native.Nat.{ℕ, suc, _<_}
 use lib.Dec.{ltb}
 use lib.ListN.{length}
 use Rattle.paper.specs.Lists.{pick, prefix, Sorted}

@@ -1,8 +1,8 @@
 -- The names are the states and dead, each once; a list of names only grows.
-use mathlib.Core.Path.{_≡_, refl, sym, ap, ap₂, _∙_, subst}
-use mathlib.Core.Bool.{Bool, true, false, _||_, or-assoc, or-false, or-true}
+use mathlib.Core.Path.{_≡_, refl, sym, ap, _∙_, subst}
+use mathlib.Core.Bool.{Bool, true, false, _||_, or-assoc, or-false}
 use mathlib.Core.List.{List, [], _∷_, _++_, append-nil, List·Memᴰ, List·Memᴰ·head, List·Memᴰ·tail}
-use mathlib.Core.Logic.{_⊎_, inl, inr, ⊎-elim}
+use mathlib.Core.Logic.{_⊎_, ⊎-elim}
 use Prim.Native.Nat.{ℕ, zero, suc, _+_, _*_, _≤_, _<_}
 use native.Mathlib.Nat.{not-suc-le-zero}
 use native.Mathlib.Decide.{decLt}
@@ -10,10 +10,10 @@ use native.Mathlib.Omega.{arith}
 use lib.Dec.{eqb}
 use lib.ListN.{length, getD, length-append, List·getD-append}
 use lib.Seq.{getD-append-seam}
-use Rattle.paper.specs.Lists.{pick, same, prefix, snoc, isNil}
+use Rattle.paper.specs.Lists.{same, prefix, snoc}
 use Rattle.paper.specs.Patterns.{Entry}
 use Rattle.paper.specs.Automaton.{isState}
-use Rattle.paper.proofs.Tests.{test, clash, true-both, or-left, or-right, or-cases, or-not-left, or-not-right, eqb-eq, eq-eqb, and-left, and-right}
+use Rattle.paper.proofs.Tests.{test, clash, true-both, or-left, or-right, or-cases, eqb-eq, and-left, and-right}
 use Rattle.paper.proofs.Strings.{same-eq, same-refl, prefix-append, snoc-append}
 use Rattle.paper.proofs.Machines.{state-root}
 use Rattle.plan.specs.Names.{has, made, along, namesFrom, rootAndDead, names, Distinct}

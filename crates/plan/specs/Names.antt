@@ -1,7 +1,7 @@
 -- Trie numbers: the states in the order in which the patterns' bytes make them. State k is the k-th name; root is 0, dead is 1.
 -- The number of letters is an argument, `a`: a byte is below it.
 use mathlib.Core.Path.{_≡_}
-use mathlib.Core.Bool.{Bool, true, false, _||_}
+use mathlib.Core.Bool.{Bool, false, _||_}
 use mathlib.Core.List.{List, [], _∷_, _++_}
 use Prim.Native.Nat.{ℕ, _<_}
 use lib.ListN.{length, getD}

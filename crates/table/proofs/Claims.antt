@@ -1,17 +1,15 @@
 -- The readers' answers meet the words of document 01: by the tests of their definitions, one after the other.
-use mathlib.Core.Path.{_≡_, refl, sym, ap, _∙_, subst}
+use mathlib.Core.Path.{_≡_, sym, ap, _∙_}
 use mathlib.Core.Bool.{Bool, true, false, false≢true}
 use mathlib.Core.List.{List}
-use mathlib.Core.Logic.{_⊎_, inl, inr, ⊎-elim, _↔_}
+use mathlib.Core.Logic.{_⊎_, inl, inr, ⊎-elim}
 use Prim.Native.Nat.{ℕ, _<_}
 use lib.Bits.{bitXor}
 use lib.Dec.{eqb, ltb}
 use lib.ListN.{length, getD}
-use Rattle.paper.specs.Lists.{pick}
 use Rattle.paper.proofs.Tests.{test, eqb-eq, eqb-ne, ne-eqb, eq-eqb, lt-ltb, ltb-lt}
 use Rattle.table.specs.Readers.{there, probeOf, linkOf}
 use Rattle.table.specs.Claims.{ChildAt, NoCell, LinksTo, ReaderClaims}
-use Rattle.table.specs.declared.CellId.{CellId}
 use Rattle.table.specs.declared.Found.{Found}
 use Rattle.table.specs.declared.Found.the-variants as found
 use Rattle.table.specs.declared.Linked.{Linked}

@@ -1,6 +1,6 @@
 -- When a cell is there.
-use mathlib.Core.Path.{_≡_, refl}
-use mathlib.Core.Bool.{Bool, true, false}
+use mathlib.Core.Path.{_≡_}
+use mathlib.Core.Bool.{true, false}
 use Prim.Native.Nat.{ℕ, _≤_, _<_}
 use lib.Dec.{ltb}
 use Rattle.paper.proofs.Tests.{and-left, and-right, lt-ltb, ltb-lt, le-ltb}

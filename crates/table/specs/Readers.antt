@@ -1,12 +1,11 @@
 -- What the readers of the tables answer, on any tables and any numbers. A column is one field of every cell.
-use mathlib.Core.Bool.{Bool, not, _&&_}
+use mathlib.Core.Bool.{Bool, _&&_}
 use mathlib.Core.List.{List}
 use Prim.Native.Nat.{ℕ}
 use lib.Bits.{bitXor}
 use lib.Dec.{eqb, ltb}
 use lib.ListN.{length, getD}
 use Rattle.paper.specs.Lists.{pick}
-use Rattle.table.specs.declared.CellId.{CellId}
 use Rattle.table.specs.declared.Found.{Found}
 use Rattle.table.specs.declared.Found.the-variants as found
 use Rattle.table.specs.declared.Linked.{Linked}

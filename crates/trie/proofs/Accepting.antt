@@ -1,21 +1,19 @@
 -- The loop of `add_all`: pattern by pattern, and what it accepts is what document 01 accepts.
-use mathlib.Core.Path.{_≡_, refl, sym, ap, ap₂, _∙_, subst}
-use mathlib.Core.Bool.{Bool, true, false, _&&_, _||_, or-comm, or-false, or-assoc}
+use mathlib.Core.Path.{_≡_, refl, sym, ap, _∙_, subst}
+use mathlib.Core.Bool.{Bool, true, false, _&&_, _||_, or-comm, or-assoc}
 use mathlib.Core.List.{List, [], _∷_, _++_, append-nil, append-assoc}
-use Prim.Native.Nat.{ℕ, zero, suc, _+_, _≤_, _<_}
-use native.Mathlib.Nat.{not-suc-le-zero}
+use Prim.Native.Nat.{ℕ, _+_, _≤_, _<_}
 use native.Mathlib.Numerals.{add-one}
 use native.Mathlib.Omega.{arith}
-use lib.ListN.{length, getD, take, drop, length-append}
+use lib.ListN.{length, getD, drop, length-append}
 use lib.Seq.{drop-cons, drop-length}
-use Rattle.paper.specs.Lists.{pick, snoc}
-use Rattle.paper.specs.Patterns.{Entry, Choice, longest, first, Kind, standard, leftmost, rowsFrom, rows, properPrefix, barred, keep, accepted}
+use Rattle.paper.specs.Patterns.{Entry, longest, first, Kind, standard, leftmost, rowsFrom, rows, properPrefix, barred, keep, accepted}
 use Rattle.paper.proofs.Tests.{test}
 use Rattle.list.specs.Limits.{alphabet}
 use Rattle.plan.specs.Names.{names, namesFrom, rootAndDead}
 use Rattle.plan.proofs.Names.{from-long}
-use Rattle.trie.specs.Trie.{Slots, slotsOf, withRootAndDead, Least, Trie}
-use Rattle.trie.specs.Owned.{Owns, ownsOf}
+use Rattle.trie.specs.Trie.{Slots}
+use Rattle.trie.specs.Owned.{Owns}
 use Rattle.trie.specs.Made.{Made, GrewOk, grownBy, dropsOf, acceptOn, entry}
 use Rattle.trie.specs.declared.Grew.{Grew}
 use Rattle.trie.specs.declared.Grew.the-variants.{On, Full}

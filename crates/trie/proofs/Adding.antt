@@ -1,20 +1,18 @@
 -- The loop of `add`: after i bytes of w the state is that of the bytes, and what is left to make is what was to make at the start.
-use mathlib.Core.Path.{_≡_, refl, sym, ap, ap₂, _∙_, subst}
-use mathlib.Core.Bool.{Bool, true, false}
+use mathlib.Core.Path.{_≡_, refl, sym, ap, _∙_, subst}
+use mathlib.Core.Bool.{true}
 use mathlib.Core.List.{List, [], _∷_, _++_}
-use Prim.Native.Nat.{ℕ, zero, suc, _+_, _-_, _≤_, _<_}
-use native.Mathlib.Decide.{decLt, ℕ-discrete}
+use Prim.Native.Nat.{ℕ, suc, _+_, _-_, _≤_, _<_}
+use native.Mathlib.Decide.{ℕ-discrete}
 use native.Mathlib.Numerals.{add-one}
 use native.Mathlib.Omega.{arith}
-use lib.Dec.{eqb}
 use lib.ListN.{length, getD, take, drop}
 use lib.Seq.{take-suc, drop-cons, drop-length, take-length, length-take-le}
-use Rattle.paper.specs.Lists.{pick, snoc}
-use Rattle.paper.proofs.Tests.{test}
+use Rattle.paper.specs.Lists.{snoc}
 use Rattle.paper.proofs.Strings.{snoc-is}
 use Rattle.plan.specs.Names.{has, along}
-use Rattle.plan.proofs.Names.{more-length, more-old, more-new, has-at, along-long, along-old, along-new, along-end}
-use Rattle.trie.specs.Trie.{Slots, Kid, Least, Trie, After, Gap, Inserted}
+use Rattle.plan.proofs.Names.{more-length, more-new, has-at, along-long, along-old, along-new, along-end}
+use Rattle.trie.specs.Trie.{Slots, Kid, Trie, Gap, Inserted}
 use Rattle.trie.specs.Answers.{Grown, Located}
 use Rattle.trie.specs.declared.TrieId.{TrieId}
 use Rattle.trie.specs.declared.Place.{Place}

@@ -1,23 +1,23 @@
 -- When a pattern is dropped: the walk down the trie meets an own output before its last byte exactly if an entry is a proper prefix of it.
 use mathlib.Core.Path.{_≡_, refl, sym, ap, _∙_, subst}
-use mathlib.Core.Bool.{Bool, true, false, not, _&&_, _||_}
-use mathlib.Core.List.{List, [], _∷_, _++_, List·Memᴰ, List·Memᴰ·head, List·Memᴰ·tail, List·Memᴰ·not-nil, List·Memᴰ·cases-cons}
+use mathlib.Core.Bool.{true, false, not}
+use mathlib.Core.List.{List, [], _∷_, List·Memᴰ, List·Memᴰ·head, List·Memᴰ·tail, List·Memᴰ·not-nil, List·Memᴰ·cases-cons}
 use mathlib.Core.Logic.{⊎-elim}
-use Prim.Native.Nat.{ℕ, zero, suc, _+_, _-_, _≤_, _<_}
-use native.Mathlib.Decide.{decLt, ℕ-discrete}
+use Prim.Native.Nat.{ℕ, suc, _+_, _-_, _<_}
+use native.Mathlib.Decide.{decLt}
 use native.Mathlib.Numerals.{add-one}
 use native.Mathlib.Omega.{arith}
-use lib.Dec.{eqb, ltb}
+use lib.Dec.{ltb}
 use lib.ListN.{length, getD, take, drop, take-append-drop}
-use lib.Seq.{take-suc, take-length, length-take-le}
-use Rattle.paper.specs.Lists.{pick, same, prefix, snoc, isNil}
+use lib.Seq.{take-suc, length-take-le}
+use Rattle.paper.specs.Lists.{same, prefix, snoc, isNil}
 use Rattle.paper.specs.Patterns.{Entry, barred, properPrefix}
 use Rattle.paper.specs.Automaton.{isState, ownOf}
-use Rattle.paper.proofs.Tests.{test, clash, not-true→false, or-left, or-right, or-cases, and-left, and-right, and-both, lt-ltb, ltb-lt, eqb-ne, ne-eqb}
+use Rattle.paper.proofs.Tests.{clash, not-true→false, or-left, or-right, and-left, and-right, and-both, lt-ltb, ltb-lt, ne-eqb}
 use Rattle.paper.proofs.Strings.{prefix-append, prefix-of, prefix-same, prefix-length, snoc-is}
 use Rattle.paper.proofs.Leftmost.{own-entry, own-some, to-own, entry-state}
 use Rattle.plan.specs.Names.{has}
-use Rattle.trie.specs.Trie.{Slots, Kid, Trie, Gap}
+use Rattle.trie.specs.Trie.{Slots, Kid, Trie}
 use Rattle.trie.specs.Owned.{Owned, Covers}
 
 -- ---- barred, by members

@@ -1,8 +1,8 @@
 -- A trie with one state more is the trie of the names with one name more.
-use mathlib.Core.Path.{_≡_, refl, sym, ap, ap₂, _∙_, subst}
-use mathlib.Core.Bool.{Bool, true, false}
+use mathlib.Core.Path.{_≡_, refl, sym, ap, _∙_}
+use mathlib.Core.Bool.{false}
 use mathlib.Core.List.{List, [], _∷_, _++_}
-use Prim.Native.Nat.{ℕ, zero, suc, _+_, _≤_, _<_}
+use Prim.Native.Nat.{ℕ, suc, _+_, _≤_, _<_}
 use native.Mathlib.Decide.{decLt, ℕ-discrete}
 use native.Mathlib.Omega.{arith}
 use lib.ListN.{length, getD}
@@ -11,7 +11,7 @@ use Rattle.paper.proofs.Tests.{test}
 use Rattle.paper.proofs.Strings.{length-snoc, snoc-byte, snoc-parent}
 use Rattle.plan.specs.Names.{has, Distinct}
 use Rattle.plan.proofs.Names.{Index, index, more-length, more-old, more-new, more-absent, more-distinct, not-absent}
-use Rattle.trie.specs.Trie.{Slots, Kid, Least, Born, Trie, After, Gap, Inserted}
+use Rattle.trie.specs.Trie.{Slots, Kid, Least, Born, Trie, Gap, Inserted}
 
 pub nil-snoc : (u : List ℕ) (c : ℕ) → [] ≡ snoc u c → ⊥
 nil-snoc u c e = omega (arith, ap (λ (l : List ℕ). length l) e, length-snoc u c)

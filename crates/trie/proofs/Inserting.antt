@@ -1,5 +1,5 @@
 -- The rows that `insert` writes are those of one state more.
-use mathlib.Core.Path.{_≡_, refl, sym, ap, _∙_}
+use mathlib.Core.Path.{_≡_, refl, _∙_}
 use mathlib.Core.List.{List, [], _∷_}
 use Prim.Native.Nat.{ℕ, _<_}
 use native.Mathlib.Decide.{ℕ-discrete}
@@ -7,7 +7,7 @@ use native.Mathlib.Omega.{arith}
 use lib.ListN.{length, getD, set, length-set}
 use Rattle.zeros.specs.Rows.{field}
 use Rattle.zeros.proofs.Rows.{field-set-same, field-set-other}
-use Rattle.trie.specs.Trie.{slotsOf, Inserted, withNew, withFirst, withSibling, withOwn}
+use Rattle.trie.specs.Trie.{slotsOf, Inserted, withNew, withFirst, withSibling}
 
 -- a field that a row keeps is kept everywhere
 pub kept-field : (rows : List (List ℕ)) (i j : ℕ) (r : List ℕ) → i < length rows → getD r j 0 ≡ field rows i j

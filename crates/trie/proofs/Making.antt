@@ -1,25 +1,25 @@
 -- One pattern more: the tables of the accepted patterns become those of the accepted patterns and it.
-use mathlib.Core.Path.{_≡_, refl, sym, ap, ap₂, _∙_, subst}
-use mathlib.Core.Bool.{Bool, true, false, not, or-true}
-use mathlib.Core.List.{List, [], _∷_, _++_, append-nil, append-assoc, reverse, reverse-append}
-use Prim.Native.Nat.{ℕ, zero, suc, _+_, _≤_, _<_}
+use mathlib.Core.Path.{_≡_, refl, sym, ap, _∙_, subst}
+use mathlib.Core.Bool.{true, false, or-true}
+use mathlib.Core.List.{List, [], _∷_, _++_, append-nil, reverse, reverse-append}
+use Prim.Native.Nat.{ℕ, zero, _+_, _≤_, _<_}
 use native.Mathlib.Decide.{decLt, ℕ-discrete}
 use native.Mathlib.Omega.{arith}
 use native.Mathlib.Numerals.{add-one}
-use lib.Dec.{eqb, ltb}
-use lib.ListN.{length, getD, set, length-append, length-set}
-use Rattle.paper.specs.Lists.{pick, same, prefix, snoc, isNil, those}
+use lib.Dec.{eqb}
+use lib.ListN.{length, getD, set, length-append}
+use Rattle.paper.specs.Lists.{pick, same, snoc, isNil, those}
 use Rattle.paper.specs.Patterns.{Entry}
 use Rattle.paper.specs.Automaton.{isState, ownOf}
-use Rattle.paper.proofs.Tests.{test, clash, not-true→false, ne-eqb, eq-eqb, eqb-ne, eqb-eq, lt-ltb, not-false}
-use Rattle.paper.proofs.Strings.{same-eq, same-refl, eq-same, prefix-refl}
+use Rattle.paper.proofs.Tests.{test, not-true→false, ne-eqb, lt-ltb}
+use Rattle.paper.proofs.Strings.{same-eq, same-refl, prefix-refl}
 use Rattle.paper.proofs.Leftmost.{own-entry, entry-state}
 use Rattle.list.specs.Limits.{alphabet}
 use Rattle.zeros.specs.Rows.{field}
 use Rattle.zeros.proofs.Rows.{field-set-same, field-set-other}
 use Rattle.plan.specs.Names.{has, made, along, namesFrom, rootAndDead, names, Distinct}
-use Rattle.plan.proofs.Names.{Index, index, has-from, root-has, more-old, made-long, along-long}
-use Rattle.trie.specs.Trie.{Slots, slotsOf, withOwn, Least, Trie}
+use Rattle.plan.proofs.Names.{index, has-from, root-has, more-old, made-long, along-long}
+use Rattle.trie.specs.Trie.{Slots, slotsOf, withOwn, Trie}
 use Rattle.trie.specs.Owned.{Owned, Covers, Owns, ownsOf, ownsWith, Pile, Piled}
 use Rattle.trie.specs.Answers.{Grown, AddedOk}
 use Rattle.trie.specs.declared.TrieId.{TrieId}

@@ -1,14 +1,12 @@
 -- The walk along the children of a state by rising byte.
-use mathlib.Core.Path.{_≡_, refl, sym, ap, _∙_, subst}
-use mathlib.Core.Bool.{Bool, true, false}
-use mathlib.Core.List.{List, [], _∷_}
-use Prim.Native.Nat.{ℕ, zero, suc, _-_, _≤_, _<_}
+use mathlib.Core.Path.{_≡_, refl}
+use mathlib.Core.List.{List}
+use Prim.Native.Nat.{ℕ, suc, _-_, _≤_, _<_}
 use native.Mathlib.Omega.{arith}
 use lib.Dec.{eqb}
-use lib.ListN.{length, getD}
-use Rattle.paper.specs.Lists.{pick, snoc}
+use lib.ListN.{length}
+use Rattle.paper.specs.Lists.{pick}
 use Rattle.paper.proofs.Tests.{test, ne-eqb, eqb-ne}
-use Rattle.plan.specs.Names.{has}
 use Rattle.trie.specs.Trie.{Slots, Kid, Least, Trie, After, Gap}
 
 -- what is left of the children at t, as a number that falls

@@ -1,22 +1,20 @@
 -- The tables of no patterns: root and dead.
-use mathlib.Core.Path.{_≡_, refl, sym, ap, _∙_}
-use mathlib.Core.Bool.{Bool, true, false, _||_}
-use mathlib.Core.List.{List, [], _∷_, reverse, cons≢nil, head-eq-of-cons-eq}
-use Prim.Native.Nat.{ℕ, zero, suc, _+_, _≤_, _<_}
+use mathlib.Core.Path.{_≡_, refl}
+use mathlib.Core.Bool.{false}
+use mathlib.Core.List.{List, [], _∷_}
+use Prim.Native.Nat.{ℕ, zero, suc, _≤_, _<_}
 use native.Mathlib.Omega.{arith}
-use lib.Dec.{eqb}
-use lib.ListN.{length, getD, set, length-set}
+use lib.ListN.{length, getD}
 use Rattle.paper.specs.Lists.{same, snoc, those}
-use Rattle.paper.specs.Patterns.{Entry}
 use Rattle.paper.specs.Automaton.{ownOf}
 use Rattle.paper.proofs.Tests.{ne-eqb, eq-eqb}
-use Rattle.paper.proofs.Strings.{length-snoc, snoc-byte}
+use Rattle.paper.proofs.Strings.{snoc-byte}
 use Rattle.list.specs.Limits.{alphabet}
 use Rattle.zeros.specs.Rows.{field}
 use Rattle.zeros.proofs.Rows.{getD-zeros}
 use Rattle.plan.specs.Names.{has, namesFrom, rootAndDead, names, Distinct}
 use Rattle.trie.specs.Trie.{Slots, slotsOf, withRootAndDead, Least, Trie}
-use Rattle.trie.specs.Owned.{Owned, Owns}
+use Rattle.trie.specs.Owned.{Owns}
 use Rattle.trie.specs.Made.{Made}
 use Rattle.trie.proofs.Growing.{nil-snoc}
 

@@ -1,12 +1,11 @@
 -- What the trie's functions ask and answer, in the names of the states.
 use mathlib.Core.Path.{_≡_}
-use mathlib.Core.List.{List, [], _∷_}
+use mathlib.Core.List.{List, []}
 use Prim.Native.Nat.{ℕ, _≤_, _<_}
 use lib.ListN.{length, getD}
 use Rattle.list.specs.Limits.{alphabet}
 use Rattle.plan.specs.Names.{along}
 use Rattle.trie.specs.Trie.{Slots, slotsOf, Kid, Trie, Gap}
-use Rattle.trie.specs.declared.TrieId.{TrieId}
 use Rattle.trie.specs.declared.Place.{Place}
 use Rattle.trie.specs.declared.Place.the-variants.{At, Between}
 use Rattle.trie.specs.declared.Added.{Added}

@@ -1,7 +1,7 @@
 -- A trie in lent rows, tied to the names of its states: state k is the k-th name. No chain of siblings is spoken of: each slot says
 -- which byte comes next. `a` is the number of letters.
 use mathlib.Core.Path.{_≡_}
-use mathlib.Core.Bool.{Bool, true, false}
+use mathlib.Core.Bool.{false}
 use mathlib.Core.List.{List, [], _∷_}
 use Prim.Native.Nat.{ℕ, suc, _≤_, _<_}
 use lib.ListN.{length, getD, set}

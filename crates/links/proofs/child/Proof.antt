@@ -1,5 +1,4 @@
 -- `child` asks root's table for root, and the trie for any other state.
-use mathlib.Core.Path.{_≡_, refl, sym, ap, _∙_}
 use Rattle.trie.proofs.Adding.{located-at, located-between}
 use Rattle.links.proofs.Tops.{step-at, step-none, step-top}
 use borrow.Author.Needs.{needs}

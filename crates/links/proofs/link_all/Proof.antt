@@ -1,18 +1,16 @@
 -- `link_all` takes each state in turn from the queue.
-use mathlib.Core.Path.{_≡_, refl, sym, ap, _∙_, subst}
-use mathlib.Core.List.{List, []}
-use Prim.Native.Nat.{ℕ, suc, _≤_, _<_, _+_, _-_}
+use mathlib.Core.Path.{_≡_, refl, sym, _∙_}
+use mathlib.Core.List.{List}
+use Prim.Native.Nat.{suc, _≤_, _<_, _+_, _-_}
 use native.Mathlib.Omega.{arith}
-use borrow.Author.Needs.{needs}
-use lib.ListN.{length, getD, take}
+use lib.ListN.{length}
 use Rattle.paper.specs.Patterns.{Entry, Kind}
 use Rattle.list.specs.Limits.{alphabet}
 use Rattle.plan.specs.Names.{names}
-use Rattle.trie.specs.Trie.{slotsOf, Trie}
 use Rattle.links.specs.Notes.{notesOf, withOrder, withLink}
-use Rattle.links.specs.Linked.{ordered, isLeftmost, Linked}
-use Rattle.links.specs.Queue.{Ready, Queued, Final, Turn, Poised, Tops}
-use Rattle.links.proofs.Noting.{Rooted, rooted}
+use Rattle.links.specs.Linked.{isLeftmost}
+use Rattle.links.specs.Queue.{Ready, Queued, Turn, Poised, Tops}
+use Rattle.links.proofs.Noting.{rooted}
 use Rattle.links.proofs.Rounds.{ready-for, poised-root, place-inside, turned, finished, not-root, grown, begins}
 use Rattle.links.proofs.link_all.Statement.{statement}
 use Rattle.links.proofs.link_all.Tie as tie

@@ -1,8 +1,8 @@
 -- `link_children` walks along the children of the state whose turn it is; for each the hunt walks along the chain of links.
-use mathlib.Core.Path.{_≡_, refl, sym, ap, _∙_, subst}
-use mathlib.Core.Logic.{_⊎_, inl, inr, ⊎-elim}
+use mathlib.Core.Path.{_≡_, refl, _∙_}
+use mathlib.Core.Logic.{_⊎_, ⊎-elim}
 use mathlib.Core.List.{List, []}
-use Prim.Native.Nat.{ℕ, suc, _≤_, _<_, _+_}
+use Prim.Native.Nat.{ℕ, _<_}
 use native.Mathlib.Omega.{arith}
 use borrow.Author.Needs.{needs}
 use lib.ListN.{length, getD}
@@ -11,11 +11,11 @@ use Rattle.paper.specs.Automaton.{machine, Link, link}
 use Rattle.paper.proofs.Links.{hunts}
 use Rattle.list.specs.Limits.{alphabet}
 use Rattle.plan.specs.Names.{names}
-use Rattle.trie.specs.Trie.{slotsOf, Trie}
+use Rattle.trie.specs.Trie.{slotsOf}
 use Rattle.trie.proofs.Seeking.{rank, least-falls}
 use Rattle.links.specs.Notes.{notesOf}
-use Rattle.links.specs.Linked.{Leads, Step, ordered}
-use Rattle.links.specs.Queue.{Ready, Poised, Tops}
+use Rattle.links.specs.Linked.{Leads, ordered}
+use Rattle.links.specs.Queue.{Ready, Tops}
 use Rattle.links.proofs.Queue.{Linking}
 use Rattle.links.proofs.Hunting.{chainLeft}
 use Rattle.links.proofs.Walking.{Chained, HuntIn, Setting, opened, closed, chained, in-trie, in-notes, room-left, label-small, more, child-link, at-dead, at-child, at-root, onward, chain-inside, setting-hunt}

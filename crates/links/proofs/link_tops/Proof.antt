@@ -1,14 +1,13 @@
 -- `link_tops` walks along root's children.
-use mathlib.Core.Path.{_≡_, refl, sym, ap, _∙_, subst}
-use mathlib.Core.List.{List, []}
-use Prim.Native.Nat.{ℕ, suc, _≤_, _<_, _+_}
+use mathlib.Core.Path.{_≡_, refl, _∙_}
+use mathlib.Core.List.{List}
+use Prim.Native.Nat.{ℕ}
 use native.Mathlib.Omega.{arith}
 use borrow.Author.Needs.{needs}
-use lib.ListN.{length, getD}
+use lib.ListN.{length}
 use Rattle.paper.specs.Patterns.{Entry, Kind}
 use Rattle.list.specs.Limits.{alphabet}
-use Rattle.plan.specs.Names.{names}
-use Rattle.trie.specs.Trie.{slotsOf, Trie}
+use Rattle.trie.specs.Trie.{slotsOf}
 use Rattle.trie.proofs.Seeking.{rank, least-falls}
 use Rattle.links.specs.Notes.{notesOf}
 use Rattle.links.specs.Queue.{Poised}

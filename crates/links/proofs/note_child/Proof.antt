@@ -1,5 +1,4 @@
 -- `note_child` writes a child's link and its place in the queue.
-use mathlib.Core.Path.{_≡_, refl, sym, ap, _∙_}
 use Rattle.links.proofs.Noting.{noted}
 use borrow.Author.Needs.{needs}
 use Rattle.links.proofs.note_child.Statement.{statement}

@@ -1,5 +1,5 @@
 -- `stop` notes dead for a state that stops; then its link is noted, and that of all before it.
-use mathlib.Core.Path.{_≡_, refl, sym, ap, _∙_}
+use mathlib.Core.Path.{sym, _∙_}
 use native.Mathlib.Omega.{arith}
 use Rattle.links.specs.Notes.{notesOf, withLink}
 use Rattle.links.proofs.Queue.{stop-not, stop-queued, stop-final}

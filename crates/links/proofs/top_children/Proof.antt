@@ -1,10 +1,10 @@
 -- `top_children` walks along root's children.
-use mathlib.Core.Path.{_≡_, refl, sym, ap, _∙_, subst}
+use mathlib.Core.Path.{_≡_, subst}
 use mathlib.Core.List.{List, []}
-use Prim.Native.Nat.{ℕ, _≤_, _<_, _+_, _-_}
+use Prim.Native.Nat.{ℕ, _<_, _-_}
 use native.Mathlib.Omega.{arith}
 use borrow.Author.Needs.{needs}
-use lib.ListN.{length, getD}
+use lib.ListN.{length}
 use Rattle.list.specs.Limits.{alphabet}
 use Rattle.trie.specs.Trie.{slotsOf, Least, Trie}
 use Rattle.trie.proofs.Seeking.{rank, least-inside, least-falls}

@@ -1,18 +1,15 @@
 -- `make` calls the phases in their order, each on what the one before has left.
-use mathlib.Core.Path.{_≡_, refl, sym, ap, ap₂, _∙_, subst}
-use mathlib.Core.List.{List, []}
-use mathlib.Core.Logic.{_⊎_, inl, inr}
-use Prim.Native.Nat.{ℕ, _≤_, _<_}
+use mathlib.Core.Path.{_≡_, refl, sym, ap, _∙_}
+use mathlib.Core.Logic.{inl, inr}
+use Prim.Native.Nat.{ℕ, _≤_}
 use native.Mathlib.Omega.{arith}
-use lib.ListN.{length, getD}
+use lib.ListN.{length}
 use Rattle.list.specs.Kinds.{kindOf}
 use Rattle.list.specs.Claims.{Bytes, Sound}
 use Rattle.trie.specs.Trie.{slotsOf}
 use Rattle.trie.specs.Owned.{ownsOf}
 use Rattle.trie.specs.Made.{Made}
 use Rattle.trie.proofs.Accepting.{grew-on, grew-full}
-use Rattle.links.specs.Notes.{notesOf}
-use Rattle.links.specs.Linked.{Linked}
 use Rattle.links.specs.Queue.{Ready}
 use Rattle.outputs.specs.Placed.{Tabled}
 use Rattle.nfa.specs.Built.{acceptedOf, smaller, counted}

@@ -1,5 +1,5 @@
 -- `probe` by its cases, in the order of the definition.
-use mathlib.Core.Path.{_≡_, sym, _∙_}
+use mathlib.Core.Path.{sym, _∙_}
 use Prim.Native.Nat.{_<_}
 use native.Mathlib.Omega.{arith}
 use lib.Bits.{bitXor}
@@ -7,7 +7,7 @@ use lib.ListN.{length, getD}
 use borrow.Author.Needs.{needs}
 use borrow.Author.Tests.{eq-eqb, ne-eqb}
 use Rattle.table.specs.Readers.{probeOf}
-use Rattle.table.proofs.Inside.{there-below, there-in}
+use Rattle.table.proofs.Inside.{there-in}
 use borrow.Author.Needs.{needs}
 use Rattle.table.proofs.probe.Statement.{statement}
 use Rattle.table.proofs.probe.Tie as tie

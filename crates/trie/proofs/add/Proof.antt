@@ -1,12 +1,12 @@
 -- `add` walks down the trie by the bytes of one pattern and makes the states that are missing.
-use mathlib.Core.Path.{_≡_, refl, sym, ap, _∙_}
-use mathlib.Core.List.{List, []}
+use mathlib.Core.Path.{_≡_, refl, ap, _∙_}
+use mathlib.Core.List.{List}
 use mathlib.Core.Logic.{⊎-elim}
-use Prim.Native.Nat.{ℕ, _≤_, _<_, _+_, _-_}
+use Prim.Native.Nat.{ℕ, _≤_, _-_}
 use native.Mathlib.Numerals.{add-one}
 use native.Mathlib.Omega.{arith}
 use borrow.Author.Needs.{needs}
-use lib.ListN.{length, getD}
+use lib.ListN.{length}
 use Rattle.list.specs.Limits.{alphabet}
 use Rattle.trie.specs.Trie.{slotsOf, Trie}
 use Rattle.trie.proofs.Adding.{Adding, located-at, located-between, adding-start, adding-old, adding-new, adding-full, adding-end, gap-prev}

@@ -1,15 +1,13 @@
 -- `add_all` looks at the patterns in list order.
-use mathlib.Core.Path.{_≡_, refl, sym, ap, _∙_}
-use mathlib.Core.Bool.{Bool, true, false, _&&_}
-use mathlib.Core.List.{List, []}
-use Prim.Native.Nat.{ℕ, _≤_, _<_, _+_, _-_}
+use mathlib.Core.Path.{_≡_, refl, sym, _∙_}
+use mathlib.Core.List.{[]}
+use Prim.Native.Nat.{_≤_, _<_, _-_}
 use native.Mathlib.Omega.{arith}
 use borrow.Author.Needs.{needs}
 use lib.ListN.{length, getD, take, drop}
 use Rattle.list.specs.Listed.{patternsOf}
 use Rattle.list.specs.Claims.{Standing}
 use Rattle.list.proofs.Patterns.{standing, patterns-length}
-use Rattle.trie.specs.Made.{Made}
 use Rattle.trie.specs.Trie.{slotsOf}
 use Rattle.trie.specs.Owned.{ownsOf}
 use Rattle.trie.proofs.Starting.{made-none}

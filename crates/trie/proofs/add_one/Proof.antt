@@ -1,16 +1,11 @@
 -- `add_one` drops the pattern or makes its states and gives it to the last of them.
-use mathlib.Core.Path.{_≡_, refl, sym, ap, _∙_}
-use mathlib.Core.Bool.{Bool, true, false, _&&_}
-use mathlib.Core.List.{List, []}
-use Prim.Native.Nat.{ℕ, _≤_, _<_, _+_}
+use mathlib.Core.Path.{_≡_, sym, _∙_}
+use mathlib.Core.Bool.{true, false, _&&_}
 use native.Mathlib.Omega.{arith}
-use lib.ListN.{length}
 use Rattle.list.specs.Limits.{alphabet}
-use Rattle.paper.specs.Patterns.{Entry, barred}
+use Rattle.paper.specs.Patterns.{barred}
 use Rattle.plan.specs.Names.{names}
-use Rattle.trie.specs.Made.{Made, entry}
-use Rattle.trie.specs.Trie.{slotsOf}
-use Rattle.trie.specs.Owned.{ownsOf}
+use Rattle.trie.specs.Made.{entry}
 use Rattle.trie.proofs.Making.{names-more, names-cover, made-more, added-to, added-full}
 use borrow.Author.Needs.{needs}
 use Rattle.trie.proofs.add_one.Statement.{statement}

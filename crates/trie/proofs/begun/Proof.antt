@@ -1,10 +1,10 @@
 -- `begun` walks down the trie and meets an own output before the last byte exactly if an entry is a proper prefix.
-use mathlib.Core.Path.{_≡_, refl, sym, ap, _∙_}
-use mathlib.Core.List.{List, []}
-use Prim.Native.Nat.{ℕ, _≤_, _<_, _+_, _-_}
+use mathlib.Core.Path.{sym, _∙_}
+use mathlib.Core.List.{List}
+use Prim.Native.Nat.{ℕ, _≤_, _<_, _-_}
 use native.Mathlib.Omega.{arith}
 use borrow.Author.Needs.{needs}
-use lib.ListN.{length, getD}
+use lib.ListN.{length}
 use Rattle.list.specs.Limits.{alphabet}
 use Rattle.paper.specs.Patterns.{Entry}
 use Rattle.trie.specs.Trie.{slotsOf, Trie}

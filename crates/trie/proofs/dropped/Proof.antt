@@ -1,5 +1,5 @@
 -- `dropped` asks only where the kind drops.
-use mathlib.Core.Path.{_≡_, refl, sym, ap, _∙_}
+use mathlib.Core.Path.{_∙_}
 use borrow.Author.Needs.{needs}
 use Rattle.trie.proofs.dropped.Statement.{statement}
 use Rattle.trie.proofs.dropped.Tie as tie

@@ -1,5 +1,5 @@
 -- `give` notes the own output and lets the state's slot tell it.
-use mathlib.Core.Path.{_≡_, refl, sym, ap, _∙_}
+use mathlib.Core.Path.{_∙_}
 use borrow.Author.Needs.{needs}
 use Rattle.trie.proofs.give.Statement.{statement}
 use Rattle.trie.proofs.give.Tie as tie

@@ -1,6 +1,4 @@
 -- `insert` writes the new row, then the slot that leads to it: the parent's or the sibling's before it.
-use mathlib.Core.Path.{_≡_, refl, sym, ap, _∙_}
-use native.Mathlib.Omega.{arith}
 use Rattle.trie.proofs.Inserting.{inserted-first, inserted-after}
 use borrow.Author.Needs.{needs}
 use Rattle.trie.proofs.insert.Statement.{statement}

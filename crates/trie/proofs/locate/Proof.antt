@@ -1,9 +1,8 @@
 -- `locate` finds the child on a byte, or the gap for it: it walks along the children by rising byte.
-use mathlib.Core.Path.{_≡_, refl, sym, ap, _∙_}
+use mathlib.Core.Path.{_≡_, sym, _∙_}
 use mathlib.Core.List.{List, []}
-use Prim.Native.Nat.{ℕ, _≤_, _<_, _+_, _-_}
+use Prim.Native.Nat.{ℕ, _<_, _-_}
 use native.Mathlib.Omega.{arith}
-use borrow.Author.Needs.{needs}
 use lib.ListN.{length, getD}
 use Rattle.list.specs.Limits.{alphabet}
 use Rattle.trie.specs.Trie.{slotsOf, Least, Trie}

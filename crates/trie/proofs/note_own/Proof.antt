@@ -1,7 +1,5 @@
 -- `note_own` writes the slot if there is one.
 use Rattle.paper.proofs.Tests.{lt-ltb, le-ltb}
-use lib.ListN.{length}
-use native.Mathlib.Omega.{arith}
 use borrow.Author.Needs.{needs}
 use Rattle.trie.proofs.note_own.Statement.{statement}
 use Rattle.trie.proofs.note_own.Tie as tie
