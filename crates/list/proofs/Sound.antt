@@ -75,15 +75,15 @@ module _ (kind : ℕ) (bytes ends values : List ℕ) where
   pub fine-sound : (r : Listing) → told r ≡ lowest (refusals kind bytes ends values) → r ≡ Fine → Sound kind bytes ends values
   fine-sound r e f = untold-sound (sym e ∙ ap told f)
 
-  pub sound-fine : (r : Listing) → told r ≡ lowest (refusals kind bytes ends values) → Sound kind bytes ends values → r ≡ Fine
-  sound-fine r e s =
-      told-only r Fine
-      (e
-      ∙ sym
-      (gives-fine kind bytes ends values
+  pub sound-untold : Sound kind bytes ends values → told Fine ≡ lowest (refusals kind bytes ends values)
+  sound-untold s =
+      gives-fine kind bytes ends values
       (record { known = s .known; paired = s .paired; right = sound-right bytes ends (s .cut); few = s .few })
       (sym (first-only [] isEmpty ps none (λ j k. let l = s .filled j (omega (arith, patterns-length bytes ends)) in ne-eqb (length (getD ps j [])) 0 (λ z. omega arith))))
-      (sym (first-only [] (exceeds mostBytes) ps none (λ j k. le-ltb mostBytes (length (getD ps j [])) (s .short j (omega (arith, patterns-length bytes ends))))))))
+      (sym (first-only [] (exceeds mostBytes) ps none (λ j k. le-ltb mostBytes (length (getD ps j [])) (s .short j (omega (arith, patterns-length bytes ends))))))
+
+  pub sound-fine : (r : Listing) → told r ≡ lowest (refusals kind bytes ends values) → Sound kind bytes ends values → r ≡ Fine
+  sound-fine r e s = told-only r Fine (e ∙ sym (sound-untold s))
 
   numbers-distinct : distinct (refusals kind bytes ends values) ≡ true
   unfolding refusals distinct without

@@ -36,8 +36,10 @@ abbrev pub counted : ℕ → ℕ
 counted n = smaller n 4294967295
 
 -- the tables hold the automaton of the accepted patterns; `linked` are the notes before the outputs were stored
-pub record Built (kind : ℕ) (bytes ends values : List ℕ) (trie owns notes outs₀ outs : List (List ℕ)) (states count : ℕ) : Type 0 where
+pub record Built (kind : ℕ) (bytes ends values : List ℕ) (stateSlots outSlots : ℕ) (trie owns notes outs₀ outs : List (List ℕ)) (states count : ℕ) : Type 0 where
   pub sound : Sound kind bytes ends values
+  pub states-fit : length (names alphabet (acceptedOf kind bytes ends)) ≤ stateSlots
+  pub outputs-fit : length (acceptedOf kind bytes ends) ≤ outSlots
   pub linked : List (List ℕ)
   pub tabled : Tabled (kindOf kind) (acceptedOf kind bytes ends) trie owns linked values (length outs₀) states
   pub placed : Placed (kindOf kind) (acceptedOf kind bytes ends) values linked notes outs₀ outs count
@@ -53,5 +55,5 @@ pub record Caused (kind : ℕ) (bytes ends values : List ℕ) (stateSlots outSlo
 -- what the answer says
 abbrev pub Answered : ℕ → List ℕ → List ℕ → List ℕ → ℕ → ℕ → List (List ℕ) → List (List ℕ) → List (List ℕ) → List (List ℕ) → List (List ℕ) → Nfa → Type 0
 Answered kind bytes ends values stateSlots outSlots trie owns notes outs₀ outs (Made states count) =
-    Built kind bytes ends values trie owns notes outs₀ outs states count
+    Built kind bytes ends values stateSlots outSlots trie owns notes outs₀ outs states count
 Answered kind bytes ends values stateSlots outSlots trie owns notes outs₀ outs (Refused n) = Caused kind bytes ends values stateSlots outSlots n

@@ -217,8 +217,11 @@ same-length-8 c = search needs
 returns-4 : tie.Need-returns-4
 returns-4 c =
     let T = table (c .before .before .before .before .before .before .before .before) in
+    let g = grown (c .before .before .before .before .before .before .before .before .before .before .before .before .before .before) in
     record {
       sound = sound-here (c .before .before .before .before .before .before .before .before .before .before .before .before .before .before .before .before .before .before .before .before .before .before .before .before .before);
+      states-fit = omega (arith, g .0 .states-are, g .1, slots-under (c .before .before .before .before .before .before .before .before .before .before .before .before .before .before .before .before .before .before .before .before .before .before .before));
+      outputs-fit = omega (arith, g .0 .count-is, out-slots (c .before .before .before .before .before .before .before .before .before .before .before .before .before), c .before .before .before .before .before .before .before .before .before .before .before .before .if2 .left);
       linked = c .before .before .before .before .before .before .before .before .link-all .last .1 .0;
       tabled = T;
       placed = c .before .before .store-outputs .ensures _ _ T;
