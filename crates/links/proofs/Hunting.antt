@@ -15,8 +15,9 @@ use Rattle.list.specs.Limits.{alphabet, mostBytes}
 use Rattle.plan.specs.Names.{names}
 use Rattle.plan.specs.Breadth.{Bounded}
 use Rattle.trie.specs.Trie.{Slots, Trie}
+use Rattle.trie.proofs.Walks.{agree}
 use Rattle.links.specs.Linked.{Named, Leads, Step}
-use Rattle.links.proofs.States.{agree, kid-state, kid-named, named-root, root-named}
+use Rattle.links.proofs.States.{kid-state, kid-named, named-root, root-named}
 
 -- what a link leads to is shorter than n
 abbrev pub Short : ℕ → Link → Type 0
@@ -72,7 +73,7 @@ module _ (kind : Kind) (es : List Entry) (K : Slots) (I : Trie alphabet K (names
     step-here = subst (λ (w : List ℕ). Step alphabet (names alphabet es) w c g) (P .named .is) T
 
     absent : g ≡ 0 → isState es (snoc (P .string) c) ≡ false
-    absent z = sym (agree es K I L (P .string) c small) ∙ step-here .none z
+    absent z = sym (agree es (P .string) c small) ∙ step-here .none z
 
     -- it has the byte
     pub found-child : (g ≡ 0 → ⊥) → Leads (names alphabet es) (hunts (machine kind es) from c) g

@@ -1,4 +1,3 @@
-pub mod Kids
 pub mod States
 pub mod Queue
 pub mod Hunting

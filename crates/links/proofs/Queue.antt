@@ -20,12 +20,13 @@ use Rattle.plan.specs.Breadth.{kids, below, Bounded, Apart}
 use Rattle.plan.proofs.Breadth.{breadth-below, breadth-exact, breadth-once, below-take-suc, begun-is, begun-length, begun-ends}
 use Rattle.plan.proofs.Lists.{get-member, sorted-take}
 use Rattle.trie.specs.Trie.{Slots, Kid, Least, Trie}
+use Rattle.trie.proofs.Walks.{agree}
 use Rattle.trie.proofs.Seeking.{least-label, least-kid, least-next}
 use Rattle.links.specs.Notes.{Notes}
 use Rattle.links.specs.Linked.{Named, Leads, ordered, Linked}
 use Rattle.links.specs.Queue.{ns, M, B, begun, Final, Hunted, Ordered, Queued}
-use Rattle.links.proofs.Kids.{kidsFrom, kids-all, kids-none, kids-some}
-use Rattle.links.proofs.States.{agree, numbered, kid-state, kid-named, named-once, root-named, named-root}
+use Rattle.trie.proofs.Kids.{kidsFrom, kids-all, kids-none, kids-some}
+use Rattle.links.proofs.States.{numbered, kid-state, kid-named, named-once, root-named, named-root}
 
 module _ (kind : Kind) (es : List Entry) where
   -- while the children of the state at h are put into the queue: those in `done` are, the next is t with a byte from lo on
@@ -127,7 +128,7 @@ module _ (kind : Kind) (es : List Entry) (K : Slots) (I : Trie alphabet K (names
           let e = least-label I (A .least) nz in
           let here : isState es (snoc u (A .least .stop)) ≡ true = rw (← e) next-state in
           A .split ∙ ap (λ (x : List (List ℕ)). A .done ++ x)
-          (kids-some alphabet (isState es) (ns kind es) (agree es K I L) (A .least) nz here ∙ rw e)
+          (kids-some alphabet (isState es) (ns kind es) (agree es) (A .least) nz here ∙ rw e)
 
       there : (end < length (B kind es)) × (getD (B kind es) end [] ≡ snoc u (K .label t))
       there =
@@ -187,7 +188,7 @@ module _ (kind : Kind) (es : List Entry) (K : Slots) (I : Trie alphabet K (names
     -- no child is left
     pub linking-close : t ≡ 0 → Queued kind es N (suc h) end
     linking-close z =
-        let none = kids-none alphabet (isState es) (ns kind es) (agree es K I L) (A .least) z in
+        let none = kids-none alphabet (isState es) (ns kind es) (agree es) (A .least) z in
         let all : begun kind es (suc h) ≡ begun kind es h ++ A .done
         = begun-next h l ∙ ap (λ (x : List (List ℕ)). begun kind es h ++ x) (A .split ∙ rw none (append-nil (A .done))) in
         record {

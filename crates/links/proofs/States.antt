@@ -18,16 +18,9 @@ use Rattle.trie.specs.Trie.{Slots, Kid, Trie}
 use Rattle.trie.proofs.Making.{names-cover}
 use Rattle.links.specs.Linked.{Named}
 
--- a string that ends in a byte is not dead's name
-not-dead : (a : ℕ) (u : List ℕ) (c : ℕ) → c < a → same (snoc u c) (a ∷ []) ≡ false
-not-dead a u c h = not-true→false (same (snoc u c) (a ∷ [])) (λ e. omega (arith, snoc-byte u [] c a (same-eq (snoc u c) (a ∷ []) e)))
-
 module _ (es : List Entry) (K : Slots) (I : Trie alphabet K (names alphabet es)) (L : Bounded alphabet mostBytes (isState es)) where
   abbrev ns : List (List ℕ)
   ns = names alphabet es
-
-  pub agree : (u : List ℕ) (c : ℕ) → c < alphabet → has ns (snoc u c) ≡ isState es (snoc u c)
-  agree u c h = has-names alphabet es (snoc u c) (not-dead alphabet u c h)
 
   dead-no-state : isState es (alphabet ∷ []) ≡ true → ⊥
   dead-no-state h = omega (arith, L .byte [] alphabet h)

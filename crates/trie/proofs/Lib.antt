@@ -6,3 +6,5 @@ pub mod Dropping
 pub mod Making
 pub mod Starting
 pub mod Accepting
+pub mod Kids
+pub mod Walks

@@ -30,32 +30,45 @@ unfolding bytesFrom those each
 no-bytes g zero i e = refl
 no-bytes g (suc n) i e = absurd (omega arith)
 
+-- the child bytes from lo on
+pub bytesOn : ℕ → (List ℕ → Bool) → List ℕ → ℕ → List ℕ
+bytesOn a S u lo = bytesFrom (λ c. S (snoc u c)) lo (a - lo)
+
+pub bytes-all : (a : ℕ) (S : List ℕ → Bool) (u : List ℕ) → kidBytes a S u ≡ bytesOn a S u 0
+unfolding kidBytes bytesOn bytesFrom
+bytes-all a S u = let e : a - 0 ≡ a = omega arith in rw e
+
 -- the children from the byte lo on
-pub kidsFrom : ℕ → (List ℕ → Bool) → List ℕ → ℕ → List (List ℕ)
-kidsFrom a S u lo = map (snoc u) (bytesFrom (λ c. S (snoc u c)) lo (a - lo))
+abbrev pub kidsFrom : ℕ → (List ℕ → Bool) → List ℕ → ℕ → List (List ℕ)
+kidsFrom a S u lo = map (snoc u) (bytesOn a S u lo)
 
 pub kids-all : (a : ℕ) (S : List ℕ → Bool) (u : List ℕ) → kids a S u ≡ kidsFrom a S u 0
-unfolding kids kidBytes kidsFrom bytesFrom
-kids-all a S u = let e : a - 0 ≡ a = omega arith in rw e
+unfolding kids
+kids-all a S u = ap (map (snoc u)) (bytes-all a S u)
 
 -- S agrees with the names on strings that end in a byte
 module _ (a : ℕ) (S : List ℕ → Bool) (ns : List (List ℕ)) (agree : (u : List ℕ) (c : ℕ) → c < a → has ns (snoc u c) ≡ S (snoc u c)) where
   gap-false : {u : List ℕ} {lo t : ℕ} (l : Least a ns u lo t) → l .stop ≤ a → (d : ℕ) → lo ≤ d → d < l .stop → S (snoc u d) ≡ false
   gap-false {u} l h d p q = sym (agree u d (omega arith)) ∙ l .gap d p q
 
-  pub kids-none : {u : List ℕ} {lo t : ℕ} (l : Least a ns u lo t) → t ≡ 0 → kidsFrom a S u lo ≡ []
-  unfolding kidsFrom
-  kids-none {u} {lo} l z =
+  pub bytes-none : {u : List ℕ} {lo t : ℕ} (l : Least a ns u lo t) → t ≡ 0 → bytesOn a S u lo ≡ []
+  unfolding bytesOn
+  bytes-none {u} {lo} l z =
       let e : l .stop ≡ a = l .none z in
-      ap (map (snoc u))
-      (skip (λ c. S (snoc u c)) (a - lo) (a - lo) 0 lo (l .stop) (omega arith) (omega (arith, l .low)) (gap-false l (omega arith))
-      ∙ no-bytes (λ c. S (snoc u c)) 0 (l .stop) refl)
+      skip (λ c. S (snoc u c)) (a - lo) (a - lo) 0 lo (l .stop) (omega arith) (omega (arith, l .low)) (gap-false l (omega arith))
+      ∙ no-bytes (λ c. S (snoc u c)) 0 (l .stop) refl
+
+  pub bytes-some : {u : List ℕ} {lo t : ℕ} (l : Least a ns u lo t) → (t ≡ 0 → ⊥) → S (snoc u (l .stop)) ≡ true
+      → bytesOn a S u lo ≡ l .stop ∷ bytesOn a S u (suc (l .stop))
+  unfolding bytesOn
+  bytes-some {u} {lo} l nz here =
+      let k = l .some nz in
+      skip (λ c. S (snoc u c)) (l .stop - lo) (a - lo) (a - l .stop) lo (l .stop) (omega (arith, l .low, k .byte)) (omega (arith, l .low)) (gap-false l (omega (arith, k .byte)))
+      ∙ take-one (λ c. S (snoc u c)) (a - l .stop) (a - suc (l .stop)) (l .stop) (omega (arith, k .byte)) here
+
+  pub kids-none : {u : List ℕ} {lo t : ℕ} (l : Least a ns u lo t) → t ≡ 0 → kidsFrom a S u lo ≡ []
+  kids-none {u} l z = ap (map (snoc u)) (bytes-none l z)
 
   pub kids-some : {u : List ℕ} {lo t : ℕ} (l : Least a ns u lo t) → (t ≡ 0 → ⊥) → S (snoc u (l .stop)) ≡ true
       → kidsFrom a S u lo ≡ snoc u (l .stop) ∷ kidsFrom a S u (suc (l .stop))
-  unfolding kidsFrom
-  kids-some {u} {lo} l nz here =
-      let k = l .some nz in
-      ap (map (snoc u))
-      (skip (λ c. S (snoc u c)) (l .stop - lo) (a - lo) (a - l .stop) lo (l .stop) (omega (arith, l .low, k .byte)) (omega (arith, l .low)) (gap-false l (omega (arith, k .byte)))
-      ∙ take-one (λ c. S (snoc u c)) (a - l .stop) (a - suc (l .stop)) (l .stop) (omega (arith, k .byte)) here)
+  kids-some {u} l nz here = ap (map (snoc u)) (bytes-some l nz here)
