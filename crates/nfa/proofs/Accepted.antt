@@ -3,13 +3,12 @@ use mathlib.Core.Path.{_≡_, refl, sym, ap, _∙_, subst}
 use mathlib.Core.Bool.{Bool, true, false, _&&_}
 use mathlib.Core.List.{List, [], _∷_, List·Memᴰ, List·Memᴰ·not-nil, List·Memᴰ·cases-cons}
 use mathlib.Core.Logic.{⊎-elim}
-use mathlib.Core.Option.{Option}
 use Prim.Native.Nat.{ℕ, zero, suc, _+_, _*_, _≤_, _<_}
 use native.Mathlib.Decide.{decLt}
 use native.Mathlib.Omega.{arith}
 use lib.Dec.{ltb}
 use lib.ListN.{length, length-append}
-use Rattle.paper.specs.Patterns.{Entry, rows, rowsFrom, accepted, barred, Proper}
+use Rattle.paper.specs.Patterns.{Entry, Kind, rows, rowsFrom, accepted, barred, Proper}
 use Rattle.paper.proofs.Tests.{test, lt-ltb, ltb-lt, ltb-le, le-ltb}
 use Rattle.paper.proofs.Acceptance.{rows-from, accepted-listed, proper}
 use Rattle.list.specs.Limits.{alphabet, mostListed, mostBytes}
@@ -22,19 +21,13 @@ use Rattle.plan.specs.Breadth.{Within}
 use Rattle.trie.specs.Made.{Parted, grownBy, dropsOf, acceptOn}
 use Rattle.trie.proofs.Accepting.{accept-is}
 use Rattle.links.specs.Linked.{isLeftmost}
-use Rattle.list.specs.Refusals.{Told}
-use Rattle.list.specs.Answers.{told}
-use Rattle.list.specs.declared.Listing.{Listing}
 use Rattle.plan.specs.Names.{names}
 use Rattle.plan.proofs.Names.{names-few}
 use Rattle.trie.specs.Trie.{Slots, slotsOf}
-use Rattle.trie.specs.Owned.{Owns, ownsOf}
+use Rattle.trie.specs.Owned.{Owns}
 use Rattle.trie.specs.Made.{Made}
-use Rattle.links.specs.Notes.{notesOf}
-use Rattle.links.specs.Linked.{Linked}
 use Rattle.links.specs.Queue.{Ready}
-use Rattle.outputs.specs.Placed.{Tabled}
-use Rattle.nfa.specs.Built.{acceptedOf, numberOf, smaller, counted}
+use Rattle.nfa.specs.Grown.{acceptedOf, smaller, counted}
 
 -- ---- kinds by their numbers
 
@@ -73,11 +66,6 @@ smaller-first a b h = rw (lt-ltb a b h)
 
 pub smaller-second : (a b : ℕ) → b ≤ a → b ≡ smaller a b
 smaller-second a b h = rw (le-ltb a b h)
-
--- ---- the number of a refusal
-
-pub told-number : (r s : Listing) (o : Option Told) → told r ≡ o → r ≡ s → numberOf (told s) ≡ numberOf o
-told-number r s o e f = sym (ap (λ (l : Listing). numberOf (told l)) f) ∙ ap numberOf e
 
 -- ---- the accepted patterns
 
@@ -173,20 +161,9 @@ module _ {kind : ℕ} {bytes ends values : List ℕ} (S : Sound kind bytes ends 
         notes-room = omega (arith, m .states-are);
       }
 
-  pub tabled : {trie owns notes : List (List ℕ)} {states count room outRoom : ℕ} → Bytes bytes → room ≡ length owns → Made (slotsOf trie) (ownsOf owns) states count room es
-      → Linked (kindOf kind) es (notesOf notes) → states ≤ length trie → states ≤ length notes → count ≤ length owns → count ≤ outRoom
-      → Tabled (kindOf kind) es trie owns notes values outRoom states
-  tabled {trie} {owns} {notes} {states} {count} B e m l t n o p =
-      record {
-        accepted = count;
-        made = subst (λ (n : ℕ). Made (slotsOf trie) (ownsOf owns) states count n es) e m;
-        linked = l;
-        proper = fit;
-        within = within B;
-        valued = valued;
-        few = omega (arith, m .count-is, few);
-        own-room = o;
-        out-room = p;
-        trie-room = t;
-        note-room = n;
-      }
+-- the same with an equal number of slots
+pub made-room : {K : Slots} {O : Owns} {states count room slots : ℕ} {es : List Entry} → room ≡ slots → Made K O states count room es → Made K O states count slots es
+made-room {K} {O} {states} {count} {room} {slots} {es} e m = subst (λ (n : ℕ). Made K O states count n es) e m
+
+pub ready-room : {kind : Kind} {es : List Entry} {trie : List (List ℕ)} {room slots : ℕ} → room ≡ slots → Ready kind es trie room → Ready kind es trie slots
+ready-room {kind} {es} {trie} e r = subst (λ (n : ℕ). Ready kind es trie n) e r

@@ -1,2 +1,1 @@
-pub mod Built
-pub mod Claims
+pub mod Grown

@@ -123,6 +123,6 @@ claims =
                 rw (P .place k h z, P .rows, number)
                 (tells-chained values ((allStored kind es) .outs) (drop (length es) outs₀) ((allStored kind es) .place s)
                 (output (machine kind es) s) (S .chained s state));
-            linked = still-linked notes₀ notes (P .order-kept) (P .link-kept) (T .linked);
+            linked = still-linked notes₀ notes (λ k f b. P .kept k f (omega arith) (λ z. omega arith)) (T .linked);
           };
     }

@@ -1,7 +1,7 @@
 -- A place is noted: the order and the links stay, so the tables are still those of the accepted patterns.
 use mathlib.Core.Path.{_≡_, refl, _∙_}
 use mathlib.Core.List.{List}
-use Prim.Native.Nat.{ℕ, _≤_, _<_}
+use Prim.Native.Nat.{ℕ, zero, suc, _≤_, _<_}
 use native.Mathlib.Omega.{arith}
 use lib.ListN.{length, length-set}
 use Rattle.paper.specs.Patterns.{Entry, Kind}
@@ -13,11 +13,15 @@ use Rattle.links.specs.Linked.{Linked}
 use Rattle.outputs.specs.Placed.{Tabled, Placed}
 
 module _ (notes : List (List ℕ)) (t v : ℕ) (h : t < length notes) where
-  pub place-order : (k : ℕ) → field (withPlace notes t v) k 0 ≡ field notes k 0
-  place-order = kept-field notes t 0 _ h refl
-
-  pub place-link : (k : ℕ) → field (withPlace notes t v) k 1 ≡ field notes k 1
-  place-link = kept-field notes t 1 _ h refl
+  -- the other fields stay
+  pub place-kept : (f : ℕ) → f < 6 → (f ≡ 2 → ⊥) → (k : ℕ) → field (withPlace notes t v) k f ≡ field notes k f
+  place-kept zero b n = kept-field notes t 0 _ h refl
+  place-kept (suc zero) b n = kept-field notes t 1 _ h refl
+  place-kept (suc (suc zero)) b n = absurd (n refl)
+  place-kept (suc (suc (suc zero))) b n = kept-field notes t 3 _ h refl
+  place-kept (suc (suc (suc (suc zero)))) b n = kept-field notes t 4 _ h refl
+  place-kept (suc (suc (suc (suc (suc zero))))) b n = kept-field notes t 5 _ h refl
+  place-kept (suc (suc (suc (suc (suc (suc f)))))) b n = absurd (omega arith)
 
   pub place-here : field (withPlace notes t v) t 2 ≡ v
   place-here = field-set-same notes t 2 _ h
@@ -26,9 +30,10 @@ pub place-other : (notes : List (List ℕ)) (t v k : ℕ) → (k ≡ t → ⊥) 
 place-other notes t v k n = field-set-other notes t k 2 _ n
 
 -- the order and the links decide what is linked
-pub still-linked : {kind : Kind} {es : List Entry} (notes₀ notes : List (List ℕ)) → ((k : ℕ) → field notes k 0 ≡ field notes₀ k 0)
-    → ((k : ℕ) → field notes k 1 ≡ field notes₀ k 1) → Linked kind es (notesOf notes₀) → Linked kind es (notesOf notes)
-still-linked notes₀ notes o l L = record { order = λ i h. rw (o i) (L .order i h); link = λ k h z. rw (l k) (L .link k h z) }
+pub still-linked : {kind : Kind} {es : List Entry} (notes₀ notes : List (List ℕ)) → ((k f : ℕ) → f < 2 → field notes k f ≡ field notes₀ k f)
+    → Linked kind es (notesOf notes₀) → Linked kind es (notesOf notes)
+still-linked notes₀ notes same L =
+    record { order = λ i h. rw (same i 0 (omega arith)) (L .order i h); link = λ k h z. rw (same k 1 (omega arith)) (L .link k h z) }
 
 -- root and dead have no outputs
 abbrev pub begun : List (List ℕ) → List (List ℕ)
@@ -44,11 +49,8 @@ module _ (notes : List (List ℕ)) (two : 2 ≤ length notes) where
   second : 1 < length (withPlace notes 0 0)
   second = rw length-set (omega arith)
 
-  begun-order : (k : ℕ) → field (begun notes) k 0 ≡ field notes k 0
-  begun-order k = place-order (withPlace notes 0 0) 1 0 second k ∙ place-order notes 0 0 first k
-
-  begun-link : (k : ℕ) → field (begun notes) k 1 ≡ field notes k 1
-  begun-link k = place-link (withPlace notes 0 0) 1 0 second k ∙ place-link notes 0 0 first k
+  begun-kept : (k f : ℕ) → f < 6 → (f ≡ 2 → ⊥) → field (begun notes) k f ≡ field notes k f
+  begun-kept k f b n = place-kept (withPlace notes 0 0) 1 0 second f b n k ∙ place-kept notes 0 0 first f b n k
 
   pub begun-root : field (begun notes) 0 2 ≡ 0
   begun-root = place-other (withPlace notes 0 0) 1 0 0 (λ e. omega arith) ∙ place-here notes 0 0 first
@@ -65,8 +67,7 @@ module _ (notes : List (List ℕ)) (two : 2 ≤ length notes) where
         rows = P .rows;
         place = P .place;
         dead = P .dead;
-        order-kept = λ k. P .order-kept k ∙ begun-order k;
-        link-kept = λ k. P .link-kept k ∙ begun-link k;
+        kept = λ k f b n. P .kept k f b n ∙ begun-kept k f b n;
       }
 
   pub begun-tabled : {kind : Kind} {es : List Entry} {trie owns : List (List ℕ)} {values : List ℕ} {slots states : ℕ}
@@ -75,7 +76,7 @@ module _ (notes : List (List ℕ)) (two : 2 ≤ length notes) where
       record {
         accepted = T .accepted;
         made = T .made;
-        linked = still-linked notes (begun notes) begun-order begun-link (T .linked);
+        linked = still-linked notes (begun notes) (λ k f b. begun-kept k f (omega arith) (λ z. omega arith)) (T .linked);
         proper = T .proper;
         within = T .within;
         valued = T .valued;

@@ -26,7 +26,7 @@ use Rattle.outputs.specs.Rows.{outRow, outRows}
 use Rattle.outputs.specs.Stacked.{Sized, Stackable, Stacked}
 use Rattle.outputs.specs.Placed.{allStored, Tabled, Placed}
 use Rattle.outputs.proofs.Order.{listing, in-order, order-length}
-use Rattle.outputs.proofs.Noting.{place-order, place-link, place-here, place-other}
+use Rattle.outputs.proofs.Noting.{place-kept, place-here, place-other}
 
 -- ---- lists
 
@@ -61,8 +61,7 @@ pub record Storing (kind : Kind) (es : List Entry) (values : List ℕ) (notes₀
   pub place : (t : ℕ) (s : List ℕ) → Named (names alphabet es) t s → List·Memᴰ s ([] ∷ take i (ordered es))
       → field notes t 2 ≡ (storedTo kind es i) .place s
   pub dead : field notes 1 2 ≡ 0
-  pub order-kept : (k : ℕ) → field notes k 0 ≡ field notes₀ k 0
-  pub link-kept : (k : ℕ) → field notes k 1 ≡ field notes₀ k 1
+  pub kept : (k f : ℕ) → f < 6 → (f ≡ 2 → ⊥) → field notes k f ≡ field notes₀ k f
 
 leads-inside : (ns : List (List ℕ)) (k : Link) (l : ℕ) → 2 ≤ length ns → Leads ns k l → l < length ns
 leads-inside ns dead l two e = omega arith
@@ -104,8 +103,7 @@ module _ {kind : Kind} {es : List Entry} {trie owns notes₀ : List (List ℕ)} 
             let z : t ≡ 0 = same-number t 0 [] (rw e at N) root-named in
             rw z rooted;
         dead = none;
-        order-kept = λ k. refl;
-        link-kept = λ k. refl;
+        kept = λ k f b n. refl;
       }
 
   -- ---- one state
@@ -129,11 +127,11 @@ module _ {kind : Kind} {es : List Entry} {trie owns notes₀ : List (List ℕ)} 
     e = storedTo kind es i
 
     pub state-named : Named ns t s
-    state-named = rw (Q .order-kept i) (T .linked .order i h)
+    state-named = rw (Q .kept i 0 (omega arith) (λ z. omega arith)) (T .linked .order i h)
 
     leads : Leads ns (link M s) l
     leads =
-        rw (Q .link-kept t, ← state-named .is) (T .linked .link t (state-named .inside) (state-named .apart))
+        rw (Q .kept t 1 (omega arith) (λ z. omega arith), ← state-named .is) (T .linked .link t (state-named .inside) (state-named .apart))
 
     pub link-inside : l < length ns
     link-inside = leads-inside ns (link M s) l (T .made .trie .two) leads
@@ -235,8 +233,7 @@ module _ {kind : Kind} {es : List Entry} {trie owns notes₀ : List (List ℕ)} 
             rows = next-rows;
             place = rw (D .noted) next-place;
             dead = rw (D .noted) (place-other notes t (D .top) 1 (λ q. state-named .apart (sym q)) ∙ Q .dead);
-            order-kept = λ k. rw (D .noted) (place-order notes t (D .top) inside k ∙ Q .order-kept k);
-            link-kept = λ k. rw (D .noted) (place-link notes t (D .top) inside k ∙ Q .link-kept k);
+            kept = λ k f b n. rw (D .noted) (place-kept notes t (D .top) inside f b n k ∙ Q .kept k f b n);
           }
 
   -- ---- all states
@@ -252,8 +249,7 @@ module _ {kind : Kind} {es : List Entry} {trie owns notes₀ : List (List ℕ)} 
             (List·Memᴰ·tail (rw whole (in-order es (T .within) (T .made .trie) k h z)))
             ∙ rw whole;
         dead = Q .dead;
-        order-kept = Q .order-kept;
-        link-kept = Q .link-kept;
+        kept = Q .kept;
       }
     where
       whole : take i (ordered es) ≡ ordered es

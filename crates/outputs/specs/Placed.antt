@@ -41,12 +41,11 @@ pub record TabledSome (trie owns notes : List (List ℕ)) (values : List ℕ) (s
   pub es : List Entry
   pub tabled : Tabled kind es trie owns notes values slots states
 
--- the outputs stand first in their table, and each state's note has its place; the order and the links are as they were
+-- the outputs stand first in their table, and each state's note has its place; the other fields of the notes are as they were
 pub record Placed (kind : Kind) (es : List Entry) (values : List ℕ) (notes₀ notes outs₀ outs : List (List ℕ)) (count : ℕ) : Type 0 where
   pub count-is : count ≡ length es
   pub rows : outs ≡ outRows values ((allStored kind es) .outs) ++ drop (length es) outs₀
   pub place : (k : ℕ) → k < length (names alphabet es) → (k ≡ 1 → ⊥)
       → field notes k 2 ≡ (allStored kind es) .place (getD (names alphabet es) k [])
   pub dead : field notes 1 2 ≡ 0
-  pub order-kept : (k : ℕ) → field notes k 0 ≡ field notes₀ k 0
-  pub link-kept : (k : ℕ) → field notes k 1 ≡ field notes₀ k 1
+  pub kept : (k f : ℕ) → f < 6 → (f ≡ 2 → ⊥) → field notes k f ≡ field notes₀ k f

@@ -1,5 +1,5 @@
 -- A walk along the children of a state, as the rows lead from one to the next: the bytes that are left are those of the children left.
-use mathlib.Core.Path.{_≡_, sym, ap, _∙_, subst}
+use mathlib.Core.Path.{_≡_, refl, sym, ap, _∙_, subst}
 use mathlib.Core.Bool.{true, false}
 use mathlib.Core.List.{List, [], _∷_}
 use Prim.Native.Nat.{ℕ, suc, _<_}
@@ -39,6 +39,10 @@ module _ {es : List Entry} {rows : List (List ℕ)} (T : Stands es rows) where
       → Walk es (getD (names alphabet es) s []) (kidBytes alphabet (isState es) (getD (names alphabet es) s [])) (slotsOf rows .first s)
   walk-begin s h = record { low = 0; least = T .trie .child s h; bytes = sym (bytes-all alphabet (isState es) (getD (names alphabet es) s [])) }
 
+  pub begin-low : (s : ℕ) (h : s < length (names alphabet es)) → (walk-begin s h) .low ≡ 0
+  unfolding walk-begin
+  begin-low s h = refl
+
   module _ {u left : List ℕ} {t : ℕ} (W : Walk es u left t) where
     pub walk-end : t ≡ 0 → left ≡ []
     walk-end z = sym (W .bytes) ∙ bytes-none alphabet (isState es) (names alphabet es) (agree es) (W .least) z
@@ -75,6 +79,10 @@ module _ {es : List Entry} {rows : List (List ℕ)} (T : Stands es rows) where
             least = least-next (T .trie) (W .least) nz;
             bytes = ap (λ (c : ℕ). bytesOn alphabet (isState es) u (suc c)) (least-label (T .trie) (W .least) nz);
           }
+
+      pub next-low : walk-next .low ≡ suc (slotsOf rows .label t)
+      unfolding walk-next
+      next-low = refl
 
       pub walk-falls : rank alphabet (slotsOf rows) (slotsOf rows .sibling t) < rank alphabet (slotsOf rows) t
       walk-falls = least-falls (T .trie) (W .least) nz

@@ -1,0 +1,3 @@
+pub mod Visits
+pub mod Pushing
+pub mod Ordering

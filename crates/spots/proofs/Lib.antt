@@ -1,0 +1,4 @@
+pub mod Charting
+pub mod Passing
+pub mod Trying
+pub mod Hunting
