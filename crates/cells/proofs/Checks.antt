@@ -19,14 +19,13 @@ use Rattle.plan.specs.Placement.{Layout, takenCell, vacant, firstWhere, baseOf,
 use Rattle.plan.specs.Cells.{unusedIn, spareCheck, checkOf, Cell, linkCell, cellAt, cells}
 use Rattle.plan.proofs.Blocks.{vacant-unused, block-zero}
 use Rattle.plan.proofs.Owners.{cell-root, vacant-owner, taken-owner}
-use Rattle.plan.proofs.Cells.{low-check, child-check, state-cell, cell-check, cells-length, cells-at}
+use Rattle.plan.proofs.Cells.{low-check, child-check, state-cell, cell-check}
 use Rattle.links.specs.Linked.{Named}
 use Rattle.cells.specs.Columns.{column, Writable, Blank, Blanks, Written}
 use Rattle.cells.specs.Writing.{seatOf, ownByte, seated, StatesWritten, isSpare, unusedFrom, BlocksSpared}
 use Rattle.cells.proofs.Values.{low-spare, high-spare}
 use Rattle.cells.proofs.States.{bytes, bounded, named-state, seat-is, base-is, target-is, output-is, byte-is, depth-is}
-use Rattle.cells.proofs.Slots.{column-by-slots}
-use Rattle.cells.proofs.Seats.{at, nowhere, owned, slot-of, past-slot, column-is}
+use Rattle.cells.proofs.Seats.{at, owned, as-column, slot-of, past-slot, column-is}
 
 -- two tests that agree on a range find the same number
 first-same : (p q : ℕ → Bool) (i n : ℕ) → ((j : ℕ) → i ≤ j → j < i + n → p j ≡ q j) → firstWhere p i n ≡ firstWhere q i n
@@ -114,12 +113,8 @@ module _ {es : List Entry} {l : Layout} {linkOf : List ℕ → Link} {placeOf : 
 
       checks-are : check ≡ column (λ x. x .check) (cells block l linkOf placeOf) (length check₀)
       checks-are =
-          column-by-slots (λ x. x .check) (cells block l linkOf placeOf) nowhere check (length check₀) long
-          (omega (arith, B .room, W .blocks-are, cells-length block l linkOf placeOf))
-          (λ j h. let b : j < l .blocks * block = omega (arith, cells-length block l linkOf placeOf) in
-          check-at j (omega (arith, W .blocks-are))
-          ∙ sym (ap (λ (x : Cell). x .check) (cells-at block l linkOf placeOf j nowhere b) ∙ cell-check block l linkOf placeOf j))
-          (λ j h. check-past j (omega (arith, W .blocks-are, cells-length block l linkOf placeOf)))
+          as-column W (λ x. x .check) check (length check₀) long (B .room)
+          (λ j h. check-at j h ∙ sym (cell-check block l linkOf placeOf j)) check-past
 
   -- ---- the whole
 

@@ -23,7 +23,7 @@ use Rattle.cells.proofs.States.{bytes, bounded, named, named-state, bel
 use Rattle.cells.proofs.Slots.{column-by-slots, blank-slot}
 
 -- the cell that stands for none
-pub nowhere : Cell
+nowhere : Cell
 nowhere = record { base = 0; link = 0; output = 0; check = 0; depth = 0 }
 
 module _ {es : List Entry} {l : Layout} {linkOf : List ℕ → Link} {placeOf : List ℕ → ℕ} {trie notes spots : List (List ℕ)} {states blocks : ℕ}
@@ -64,6 +64,19 @@ module _ {es : List Entry} {l : Layout} {linkOf : List ℕ → Link} {placeOf : 
         depth-slot = omega (arith, i, B .depth-blank .room);
       }
 
+  -- a column is the part of the cells that its slots hold, with 0 past them
+  pub as-column : (part : Cell → ℕ) (xs : List ℕ) (slots : ℕ) → length xs ≡ slots → blocks * block ≤ slots
+      → ((j : ℕ) → j < blocks * block → getD xs j 0 ≡ part (at j)) → ((j : ℕ) → blocks * block ≤ j → getD xs j 0 ≡ 0)
+      → xs ≡ column part (cells block l linkOf placeOf) slots
+  as-column part xs slots long room here past =
+      column-by-slots part (cells block l linkOf placeOf) nowhere xs slots long (omega (arith, count))
+      (λ j h. let b : j < l .blocks * block = omega (arith, cells-length block l linkOf placeOf) in
+      here j (omega (arith, count)) ∙ sym (ap part (cells-at block l linkOf placeOf j nowhere b)))
+      (λ j h. past j (omega (arith, count)))
+    where
+      count : length (cells block l linkOf placeOf) ≡ blocks * block
+      count = cells-length block l linkOf placeOf ∙ ap (λ (n : ℕ). n * block) (sym (W .blocks-are))
+
   -- ---- a column after the states
 
   module _ (value : ℕ → ℕ) {column₀ : List ℕ} (B : Blank column₀ (blocks * block)) where
@@ -88,11 +101,8 @@ module _ {es : List Entry} {l : Layout} {linkOf : List ℕ → Link} {placeOf : 
     pub column-is : (part : Cell → ℕ) → ((k : ℕ) (s : List ℕ) → Named ns k s → value k ≡ part (at (cellOf l s)))
         → ((j : ℕ) → ownerOf l j ≡ none → part (at j) ≡ 0) → seats ≡ column part (cells block l linkOf placeOf) (length column₀)
     column-is part fits none-is =
-        column-by-slots part (cells block l linkOf placeOf) nowhere seats (length column₀) (seated-length (seatOf notes) value column₀ states)
-        (omega (arith, B .room, W .blocks-are, cells-length block l linkOf placeOf))
-        (λ j h. let b : j < l .blocks * block = omega (arith, cells-length block l linkOf placeOf) in
-        go j (ownerOf l j) refl ∙ sym (ap part (cells-at block l linkOf placeOf j nowhere b)))
-        (λ j h. past-slot j (omega (arith, W .blocks-are, cells-length block l linkOf placeOf)))
+        as-column part seats (length column₀) (seated-length (seatOf notes) value column₀ states) (B .room)
+        (λ j h. go j (ownerOf l j) refl) past-slot
       where
         go : (j : ℕ) (o : Option (List ℕ)) → ownerOf l j ≡ o → getD seats j 0 ≡ part (at j)
         go j none e = no-slot j (unowned j e) ∙ sym (none-is j e)

@@ -136,6 +136,7 @@ fn write_spares(spots: &[[u32; 2]], check: &mut [u8], blocks: u32)
     }
 }
 
+// All cells of the layout: what each state has in its cell, then the checks of the cells without a byte.
 pub fn write_cells(
     trie: &[[u32; 5]],
     notes: &[[u32; 6]],

@@ -10,23 +10,23 @@ use Rattle.placement.proofs.cell_of.Reads as cell-of-reads
 use Rattle.trie.proofs.first_child.Reads as first-child-reads
 use Rattle.trie.proofs.label.Reads as label-reads
 
--- src/lib.rt:27:9
+-- src/lib.rt:26:9
 first-child-requires : tie.Need-first-child-requires
 first-child-requires c κs = search needs
 
--- src/lib.rt:29:9
+-- src/lib.rt:28:9
 returns : tie.Need-returns
 returns c = sym (childless (c .before .before .before .args .trie .now) (c .before .before .before .args .notes .now) _ (sym (c .before .before .first-child .ensures) ∙ c .if1 .taken))
 
--- src/lib.rt:31:5
+-- src/lib.rt:30:5
 cell-of-requires : tie.Need-cell-of-requires
 cell-of-requires c κs = search needs
 
--- src/lib.rt:31:27
+-- src/lib.rt:30:27
 label-requires : tie.Need-label-requires
 label-requires c κs = search needs
 
--- src/lib.rt:23:1
+-- src/lib.rt:22:1
 returns-2 : tie.Need-returns-2
 returns-2 c =
     let a = c .before .before .before .before .before .before .args in

@@ -11,35 +11,35 @@ use Rattle.cells.proofs.write_cells.Lts as lts
 use Rattle.cells.proofs.write_spares.Reads as write-spares-reads
 use Rattle.cells.proofs.write_states.Reads as write-states-reads
 
--- src/lib.rt:158:5
+-- src/lib.rt:160:5
 write-states-requires : tie.Need-write-states-requires
 write-states-requires c κs = let p = c .before .before .before .before .before .before .before .before .before .before .pre in (readable (p .writable), inside (p .writable) (p .blanks))
 
--- src/lib.rt:159:5
+-- src/lib.rt:161:5
 write-spares-requires : tie.Need-write-spares-requires
 write-spares-requires c κs = search needs
 
--- src/lib.rt:138:1
+-- src/lib.rt:140:1
 same-length : tie.Need-same-length
 same-length c = search needs
 
--- src/lib.rt:138:1
+-- src/lib.rt:140:1
 same-length-2 : tie.Need-same-length-2
 same-length-2 c = search needs
 
--- src/lib.rt:138:1
+-- src/lib.rt:140:1
 same-length-3 : tie.Need-same-length-3
 same-length-3 c = search needs
 
--- src/lib.rt:138:1
+-- src/lib.rt:140:1
 same-length-4 : tie.Need-same-length-4
 same-length-4 c = search needs
 
--- src/lib.rt:138:1
+-- src/lib.rt:140:1
 same-length-5 : tie.Need-same-length-5
 same-length-5 c = search needs
 
--- src/lib.rt:138:1
+-- src/lib.rt:140:1
 returns : tie.Need-returns
 returns c = λ es l linkOf placeOf W B.
     let states = c .before .before .before .before .before .before .before .before .before .before .before .before .before .before .write-states in

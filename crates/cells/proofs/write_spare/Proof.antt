@@ -22,19 +22,19 @@ Inv-loop spots check₀ from unused end j₀ check j =
 abbrev μ-loop : tie.MeasureT-loop
 μ-loop spots check₀ from unused end j₀ check j = end - j
 
--- src/lib.rt:113:15
+-- src/lib.rt:114:15
 add-end : tie.Need-add-end Inv-loop μ-loop
 add-end c = search needs
 
--- src/lib.rt:115:5
+-- src/lib.rt:116:5
 loop-holds : tie.Need-loop-holds Inv-loop μ-loop
 loop-holds c = (omega arith, omega arith, refl, spared-none)
 
--- src/lib.rt:116:12
+-- src/lib.rt:117:12
 is-spare-requires : tie.Need-is-spare-requires Inv-loop μ-loop
 is-spare-requires c κs = search needs
 
--- src/lib.rt:117:33
+-- src/lib.rt:118:33
 cast-check : tie.Need-cast-check Inv-loop μ-loop
 cast-check c =
     let a = c .before .before .before .before .before in
@@ -44,23 +44,23 @@ cast-check c =
     (omega (arith, p .whole, l .inv .0)) (omega (arith, p .whole, c .before .before .loop-test .taken)) in
     omega (arith, small)
 
--- src/lib.rt:117:19
+-- src/lib.rt:118:19
 cast-check-2 : tie.Need-cast-check-2 Inv-loop μ-loop
 cast-check-2 c = search needs
 
--- src/lib.rt:117:13
+-- src/lib.rt:118:13
 slice-write-check : tie.Need-slice-write-check Inv-loop μ-loop
 slice-write-check c = search needs
 
--- src/lib.rt:119:9
+-- src/lib.rt:120:9
 add-j : tie.Need-add-j Inv-loop μ-loop
 add-j c = search needs
 
--- src/lib.rt:115:5
+-- src/lib.rt:116:5
 loop-less : tie.Need-loop-less Inv-loop μ-loop
 loop-less c = search needs
 
--- src/lib.rt:115:5
+-- src/lib.rt:116:5
 loop-again : tie.Need-loop-again Inv-loop μ-loop
 loop-again c =
     let a = c .before .before .before .before .before in
@@ -77,11 +77,11 @@ loop-again c =
     (λ w. (omega arith, omega arith, ap length (w .1) ∙ l .inv .2, rw (w .1) (spared-past (l .inv .3) (sym (c .before .is-spare .ensures) ∙ w .0 .left))))
     (c .if1 .came))
 
--- src/lib.rt:109:1
+-- src/lib.rt:110:1
 same-length : tie.Need-same-length Inv-loop μ-loop
 same-length c = search needs
 
--- src/lib.rt:109:1
+-- src/lib.rt:110:1
 returns : tie.Need-returns Inv-loop μ-loop
 returns c =
     let l = c .before .loop in

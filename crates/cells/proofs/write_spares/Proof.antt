@@ -23,23 +23,23 @@ Inv-loop spots check₀ blocks k₀ check k = (k ≤ blocks) × (length check �
 abbrev μ-loop : tie.MeasureT-loop
 μ-loop spots check₀ blocks k₀ check k = blocks - k
 
--- src/lib.rt:129:5
+-- src/lib.rt:130:5
 loop-holds : tie.Need-loop-holds Inv-loop μ-loop
 loop-holds c = (omega arith, refl, blocks-none)
 
--- src/lib.rt:130:20
+-- src/lib.rt:131:20
 mul-from : tie.Need-mul-from Inv-loop μ-loop
 mul-from c = omega (arith, c .loop-test .taken, c .before .before .before .pre .2)
 
--- src/lib.rt:131:35
+-- src/lib.rt:132:35
 unused-base-requires : tie.Need-unused-base-requires Inv-loop μ-loop
 unused-base-requires c κs = (omega (arith, c .loop-test .taken, c .before .before .before .pre .0), omega (arith, c .loop-test .taken, c .before .before .before .pre .2))
 
--- src/lib.rt:131:25
+-- src/lib.rt:132:25
 enum-known-unused : tie.Need-enum-known-unused Inv-loop μ-loop
 enum-known-unused c = search needs
 
--- src/lib.rt:132:13
+-- src/lib.rt:133:13
 write-spare-requires : tie.Need-write-spare-requires Inv-loop μ-loop
 write-spare-requires c κs =
     let k = c .before .before .before .before .before .before .loop .k in
@@ -62,15 +62,15 @@ write-spare-requires c κs =
 enum-told : tie.Need-enum-told Inv-loop μ-loop
 enum-told c = search needs
 
--- src/lib.rt:134:9
+-- src/lib.rt:135:9
 add-k : tie.Need-add-k Inv-loop μ-loop
 add-k c = search needs
 
--- src/lib.rt:129:5
+-- src/lib.rt:130:5
 loop-less : tie.Need-loop-less Inv-loop μ-loop
 loop-less c = search needs
 
--- src/lib.rt:129:5
+-- src/lib.rt:130:5
 loop-again : tie.Need-loop-again Inv-loop μ-loop
 loop-again c =
     let l = c .before .before .before .loop in
@@ -89,11 +89,11 @@ loop-again c =
     ))
     (c .match .came))
 
--- src/lib.rt:124:1
+-- src/lib.rt:125:1
 same-length : tie.Need-same-length Inv-loop μ-loop
 same-length c = search needs
 
--- src/lib.rt:124:1
+-- src/lib.rt:125:1
 returns : tie.Need-returns Inv-loop μ-loop
 returns c =
     let l = c .before .loop in
