@@ -81,16 +81,17 @@ module _ {es : List Entry} {l : Layout} {trie notes spots : List (List ℕ)} {s 
     pub looked-some : {after chart final : List (List ℕ)} → length chart ≡ length spots → (b : ℕ) → FoundBase l g (firstBlock blocks * block) (blocks * block) (At b)
         → Charted chart l → SeatedAt es s b notes after chart final → Looked es l g s notes after final true
     looked-some {after} {chart} {final} same b F C S =
-        let R = seat-here chart same b F in
-        (F .0,
-        look-range l g blocks (L .blocks-are) ∙ F .1,
-        record {
-          charted =
-              rw (S .chart, G)
-              (charted-put C g (F .0) b (F .2) (R .base-room)
-              (λ c m. R .cell-room c (kid-letters (L .state .stands) s g G c m)));
-          children = subst (λ (x : ℕ). Children es s x notes after) (F .2) (S .children);
-        })
+        let R = seat-here chart same b F in (
+          F .0,
+          look-range l g blocks (L .blocks-are) ∙ F .1,
+          record {
+            charted =
+                rw (S .chart, G)
+                (charted-put C g (F .0) b (F .2) (R .base-room)
+                (λ c m. R .cell-room c (kid-letters (L .state .stands) s g G c m)));
+            children = subst (λ (x : ℕ). Children es s x notes after) (F .2) (S .children);
+          },
+        )
 
     pub looked-none : {chart : List (List ℕ)} → FoundBase l g (firstBlock blocks * block) (blocks * block) Nothing → Charted chart l
         → Looked es l g s notes notes chart false

@@ -70,7 +70,13 @@ fn seat(trie: &[[u32; 5]], notes: &mut [[u32; 6]], spots: &mut [[u32; 2]], s: Tr
 }
 
 // Looks for a base in the range of so many blocks, and seats the children there.
-fn look(trie: &[[u32; 5]], notes: &mut [[u32; 6]], spots: &mut [[u32; 2]], s: TrieId, blocks: u32) -> bool
+fn look(
+    trie: &[[u32; 5]],
+    notes: &mut [[u32; 6]],
+    spots: &mut [[u32; 2]],
+    s: TrieId,
+    blocks: u32,
+) -> bool
     requires { ⌜ LookSome (now trie) (now notes) (now spots) (s .0) blocks ⌝ }
     ensures { λ r. ⌜ ((es : List Entry) (l : Layout) (g : Group) → Look es l (now (trie .entry)) (now (notes .entry)) (now (spots .entry)) (s .0) blocks
         → GroupAt es (s .0) g → Looked es l g (s .0) (now (notes .entry)) (now (notes .exit)) (now (spots .exit)) r) ⌝ }

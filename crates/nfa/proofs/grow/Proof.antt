@@ -72,7 +72,7 @@ same-length-2 c = search needs
 
 -- src/lib.rt:56:9
 returns : tie.Need-returns
-returns c = 
+returns c =
     let a = c .before .before .before .before .before .before .before .before .before .before .before .before .before .args in
     full (c .before .before .before .before .before .before .before .before .before .before .before .before .before .pre) (smaller (length (a .trie .now)) (length (a .notes .now))) (c .before .before .before .before .before .before .before .drops .ensures)
     (c .before .before .before .before .before .before .before .before .count .ensures ∙ ap counted (c .before .before .before .before .before .before .before .before .before .least .ensures)) (grew-full _ _ _ _ _ _ (c .before .before .before .before .add-all .ensures) (c .enum-told .given .1))
@@ -95,7 +95,7 @@ leftmost-requires c κs = search needs
 
 -- src/lib.rt:58:5
 link-all-requires : tie.Need-link-all-requires
-link-all-requires c κs = 
+link-all-requires c κs =
     let a = c .before .before .before .before .before .before .before .before .before .before .before .before .before .before .before .before .before .args in
     record {
       kind = kindOf (a .kind);
@@ -118,7 +118,7 @@ same-length-5 c = search needs
 
 -- src/lib.rt:40:1
 returns-2 : tie.Need-returns-2
-returns-2 c = 
+returns-2 c =
     let l = c .before .before .before in
     let R = ready (c .before .before .before .before .before .before .before .before .before .before .before .before .before .before .before .before .before .before .before .pre) {trie = c .before .before .before .before .before .before .before .before .before .before .add-all .last .1 .1 .1 .0} {noteRoom = length (c .before .before .before .before .before .before .before .before .before .before .before .before .before .before .before .before .before .before .before .args .notes .now)} (all-bytes (c .before .before .before)) (grown (c .before .before .before) .0) (omega (arith, grown (c .before .before .before) .1, slots-fit (c .before .before .before .before .before .before .before .before .before .before .before .before .before .before) .0, c .before .before .before .before .before .before .before .before .before .before .add-all .kept .1 .1 .1 .0)) (omega (arith, grown (c .before .before .before) .1, slots-fit (c .before .before .before .before .before .before .before .before .before .before .before .before .before .before) .1)) in
     record {

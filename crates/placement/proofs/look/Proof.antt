@@ -30,7 +30,7 @@ mul-end c = search needs
 
 -- src/lib.rt:80:11
 find-base-requires : tie.Need-find-base-requires
-find-base-requires c κs = 
+find-base-requires c κs =
     let p = c .before .before .pre in
     record { es = p .es; layout = p .layout; seek = sought-from (p .look) _ (ap (λ (x : ℕ). x * block) (c .before .first-block .ensures)) }
 
@@ -40,7 +40,7 @@ enum-known-base c = search needs
 
 -- src/lib.rt:82:13
 seat-requires : tie.Need-seat-requires
-seat-requires c κs = 
+seat-requires c κs =
     let p = c .before .before .before .before .before .before .before .before .before .pre in
     let e = ap (λ (x : ℕ). x * block) (c .before .before .before .before .before .before .before .before .first-block .ensures) in
     let F = c .before .before .before .before .before .before .find-base .ensures (p .es) (p .layout) (p .group) (sought-from (p .look) _ e) (p .of) in

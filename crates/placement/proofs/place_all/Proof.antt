@@ -71,14 +71,14 @@ spots-long c = c .loop .inv .1 ∙ c .before .before .before .before .before .be
 
 -- src/lib.rt:134:13
 group-at-requires : tie.Need-group-at-requires Inv-loop μ-loop
-group-at-requires c κs = 
+group-at-requires c κs =
     let l = c .before .before in
     let P = l .before .before .before .before .before .before .before .before .before .before .before .before .before .before .pre .placeable in
     omega (arith, P .ordered .room, notes-long l, c .before .loop-test .taken)
 
 -- src/lib.rt:135:33
 place-group-requires : tie.Need-place-group-requires Inv-loop μ-loop
-place-group-requires c κs = 
+place-group-requires c κs =
     let l = c .before .before .before .before .before in
     let p = l .before .before .before .before .before .before .before .before .before .before .before .before .before .before .pre in
     let P = p .placeable in
@@ -127,7 +127,7 @@ loop-less c = omega (arith, c .before .before .before .before .before .before .b
 
 -- src/lib.rt:133:5
 loop-again : tie.Need-loop-again Inv-loop μ-loop
-loop-again c = 
+loop-again c =
     let l = c .before .before .before .before .before .before .before .before .before .before .before in (
       c .before .before .before .before .before .place-group .kept .1 .0 ∙ l .loop .inv .0,
       c .before .before .before .before .before .place-group .kept .1 .1 .0 ∙ l .loop .inv .1,

@@ -49,7 +49,7 @@ add-look c = search needs
 
 -- src/lib.rt:108:5
 look-requires-2 : tie.Need-look-requires-2
-look-requires-2 c κs = 
+look-requires-2 c κs =
     let p = c .before .before .before .before .before .before .before .before .before .pre in
     let M = (as-missed (p .es) (p .layout) (p .group) _ _ _ _ (c .before .before .before .before .before .before .look .result) (c .before .before .before .before .before .before .look .ensures (p .es) (p .layout) (p .group) (p .turn .looks) (p .of)) (c .before .before .before .if1 .left)) in
     record {

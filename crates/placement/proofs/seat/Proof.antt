@@ -57,14 +57,14 @@ told c =
 
 -- src/lib.rt:61:27
 label-requires : tie.Need-label-requires Inv-loop μ-loop
-label-requires c κs = 
+label-requires c κs =
     let l = c .before .before in
     let P = l .before .before .before .before .before .pre .seat in
     walk-room (P .state .stands) (told l .walk) (c .if1 .taken)
 
 -- src/lib.rt:62:9
 take-cell-requires : tie.Need-take-cell-requires Inv-loop μ-loop
-take-cell-requires c κs = 
+take-cell-requires c κs =
     let l = c .before .before .before .before in
     let P = l .before .before .before .before .before .pre .seat in
     let k = walk-kid (P .state .stands) (told l .walk) (c .before .before .if1 .taken) in
@@ -72,7 +72,7 @@ take-cell-requires c κs =
 
 -- src/lib.rt:63:9
 set-cell-requires : tie.Need-set-cell-requires Inv-loop μ-loop
-set-cell-requires c κs = 
+set-cell-requires c κs =
     let l = c .before .before .before .before .before .before .before in
     let P = l .before .before .before .before .before .pre .seat in
     let k = walk-kid (P .state .stands) (told l .walk) (c .before .before .before .before .before .if1 .taken) in
@@ -80,21 +80,21 @@ set-cell-requires c κs =
 
 -- src/lib.rt:64:9
 next-sibling-requires : tie.Need-next-sibling-requires Inv-loop μ-loop
-next-sibling-requires c κs = 
+next-sibling-requires c κs =
     let l = c .before .before .before .before .before .before .before .before .before in
     let P = l .before .before .before .before .before .pre .seat in
     walk-room (P .state .stands) (told l .walk) (c .before .before .before .before .before .before .before .if1 .taken)
 
 -- src/lib.rt:60:5
 loop-less : tie.Need-loop-less Inv-loop μ-loop
-loop-less c = 
+loop-less c =
     let l = c .before .before .before .before .before .before .before .before .before .before in
     let P = l .before .before .before .before .before .pre .seat in
     rw (c .next-sibling .ensures) (walk-falls (P .state .stands) (told l .walk) (c .before .before .before .before .before .before .before .before .if1 .taken))
 
 -- src/lib.rt:60:5
 loop-again : tie.Need-loop-again Inv-loop μ-loop
-loop-again c = 
+loop-again c =
     let l = c .before .before .before .before .before .before .before .before .before .before in
     let P = l .before .before .before .before .before .pre .seat in
     let nz = c .before .before .before .before .before .before .before .before .if1 .taken in (

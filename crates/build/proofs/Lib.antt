@@ -1,0 +1,4 @@
+pub mod Counting
+pub mod Phasing
+pub mod Outcomes
+pub mod Promising

@@ -1,0 +1,22 @@
+-- `most_blocks` divides below the limit.
+use Rattle.build.proofs.Counting.{blocks-few, blocks-many}
+use borrow.Author.Needs.{needs}
+use Rattle.build.proofs.slots.most_blocks.Statement.{statement}
+use Rattle.build.proofs.slots.most_blocks.Tie as tie
+use Rattle.build.proofs.slots.most_blocks.Reads as reads
+use Rattle.build.proofs.slots.most_blocks.Lts as lts
+
+-- src/slots.rt:36:9
+cast-result : tie.Need-cast-result
+cast-result c = search needs
+
+-- src/slots.rt:32:1
+returns : tie.Need-returns
+returns c = blocks-few _ (c .if1 .taken)
+
+-- src/slots.rt:32:1
+returns-2 : tie.Need-returns-2
+returns-2 c = blocks-many _ (c .if1 .left)
+
+pub most-blocks-spec : {M : Type 1} → statement M
+most-blocks-spec = tie.close (tie.spec cast-result returns returns-2)

@@ -1,0 +1,126 @@
+-- The phases on blank tables: what is asked of each, and what it leaves.
+use mathlib.Core.Path.{_≡_}
+use mathlib.Core.Bool.{Bool}
+use mathlib.Core.List.{List, _++_}
+use mathlib.Core.Logic.{_⊎_}
+use Prim.Native.Nat.{ℕ, _*_, _-_, _≤_, _<_}
+use lib.ListN.{length, replicate}
+use Rattle.zeros.specs.Rows.{zeros, field}
+use Rattle.paper.specs.Patterns.{Entry, Kind}
+use Rattle.list.specs.Limits.{alphabet, block, mostCells}
+use Rattle.list.specs.Kinds.{kindOf}
+use Rattle.list.specs.Claims.{Sound}
+use Rattle.plan.specs.Names.{names}
+use Rattle.trie.specs.Stands.{Stands}
+use Rattle.groups.specs.Ordered.{Groupable, groupsOf}
+use Rattle.outputs.specs.Placed.{Tabled}
+use Rattle.placement.specs.Laid.{Laid, laidOut, LaidOut}
+use Rattle.placement.specs.declared.Blocks.{Blocks}
+use Rattle.placement.specs.declared.Blocks.the-variants.{Now, Full}
+use Rattle.cells.specs.Columns.{Blanks, Written}
+use Rattle.nfa.specs.Grown.{acceptedOf, smaller}
+use Rattle.whole.specs.Whole.{stateCount, layoutOf, cellCount, cellsOf, outputsOf}
+use Rattle.build.specs.Outcome.{Slots, cellSlots, TableRefusal}
+use Rattle.build.specs.Wiped.{blank, blankRows}
+use Rattle.build.specs.declared.phases.Progress.{Progress}
+use Rattle.build.specs.declared.phases.Progress.the-variants.{Done, Refused}
+
+-- ---- the layout
+
+-- the trie stands, there is a row of notes for each state, and the cells are untouched
+pub record Layable (es : List Entry) (trie : List (List ℕ)) (notes : ℕ) (spots : List (List ℕ)) (most : ℕ) : Type 0 where
+  pub groupable : Groupable es trie notes
+  pub blank-spots : spots ≡ blankRows 2 spots
+  pub room : most * block ≤ length spots
+  pub few : most * block ≤ mostCells
+
+-- some patterns for which this holds
+pub record LayableSome (trie : List (List ℕ)) (notes : ℕ) (spots : List (List ℕ)) (most : ℕ) : Type 0 where
+  pub es : List Entry
+  pub layable : Layable es trie notes spots most
+
+-- the layout stands in the tables; the order of the states, their links and output places are as they were
+pub record LaidDown (es : List Entry) (notes₀ notes spots : List (List ℕ)) (most blocks : ℕ) : Type 0 where
+  pub blocks-are : blocks ≡ (layoutOf es) .blocks
+  pub enough : blocks ≤ most
+  pub laid : Laid es notes spots (layoutOf es)
+  pub kept : (k f : ℕ) → f < 3 → field notes k f ≡ field notes₀ k f
+
+-- the layout stands; or it needs more blocks than may be used
+abbrev pub LaidBy : List Entry → List (List ℕ) → List (List ℕ) → List (List ℕ) → ℕ → Blocks → Type 0
+LaidBy es notes₀ notes spots most (Now blocks) = LaidDown es notes₀ notes spots most blocks
+LaidBy es notes₀ notes spots most Full = most < (layoutOf es) .blocks
+
+-- ---- outputs and cells
+
+-- the states are linked and placed, and the result tables are blank and have slots enough
+pub record Fillable (kind : Kind) (es : List Entry) (trie owns notes spots : List (List ℕ)) (values base link output check depth : List ℕ) (outs : List (List ℕ))
+    (states blocks : ℕ) : Type 0 where
+  pub tabled : Tabled kind es trie owns notes values (length outs) states
+  pub laid : Laid es notes spots (layoutOf es)
+  pub blocks-are : blocks ≡ (layoutOf es) .blocks
+  pub spots-room : blocks * block ≤ length spots
+  pub few : blocks * block ≤ mostCells
+  pub blanks : Blanks base link output check depth (blocks * block)
+  pub blank-outs : outs ≡ blankRows 3 outs
+
+-- some patterns for which this holds
+pub record FillableSome (trie owns notes spots : List (List ℕ)) (values base link output check depth : List ℕ) (outs : List (List ℕ)) (states blocks : ℕ) : Type 0 where
+  pub kind : Kind
+  pub es : List Entry
+  pub fillable : Fillable kind es trie owns notes spots values base link output check depth outs states blocks
+
+-- the result tables hold the cells and the outputs, and zero past them; the numbers are their slots
+pub record Filled (kind : Kind) (es : List Entry) (values : List ℕ) (base₀ link₀ output₀ check₀ depth₀ outs₀ : ℕ) (base link output check depth : List ℕ)
+    (outs : List (List ℕ)) (count : ℕ) : Type 0 where
+  pub count-is : count ≡ length es
+  pub columns : Written (cellsOf kind es) base link output check depth base₀ link₀ output₀ check₀ depth₀
+  pub rows : outs ≡ outputsOf kind es values ++ replicate (outs₀ - length es) (zeros 3)
+
+-- ---- the whole
+
+-- the list is sound; the chart and the result tables are blank
+pub record Prepared (kind : ℕ) (bytes ends values : List ℕ) (spots : List (List ℕ)) (base link output check depth : List ℕ) (outs : List (List ℕ)) : Type 0 where
+  pub sound : Sound kind bytes ends values
+  pub spots-blank : spots ≡ blankRows 2 spots
+  pub base-blank : base ≡ blank base
+  pub link-blank : link ≡ blank link
+  pub output-blank : output ≡ blank output
+  pub check-blank : check ≡ blank check
+  pub depth-blank : depth ≡ blank depth
+  pub outs-blank : outs ≡ blankRows 3 outs
+
+-- the slots suffice
+pub record Fits (es : List Entry) (slots : Slots) : Type 0 where
+  pub states : stateCount es ≤ slots .states
+  pub cells : cellCount es ≤ slots .cells
+  pub most : cellCount es ≤ mostCells
+  pub outputs : length es ≤ slots .outputs
+
+-- all is done, and these are the counts
+pub record AllDone (kind : ℕ) (bytes ends values : List ℕ) (slots : Slots) (base₀ link₀ output₀ check₀ depth₀ outs₀ : ℕ) (base link output check depth : List ℕ)
+    (outs : List (List ℕ)) (accepted states blocks : ℕ) : Type 0 where
+  pub fits : Fits (acceptedOf kind bytes ends) slots
+  pub states-are : states ≡ stateCount (acceptedOf kind bytes ends)
+  pub blocks-are : blocks ≡ (layoutOf (acceptedOf kind bytes ends)) .blocks
+  pub filled : Filled (kindOf kind) (acceptedOf kind bytes ends) values base₀ link₀ output₀ check₀ depth₀ outs₀ base link output check depth outs accepted
+
+-- a refusal has its cause, and none before it has
+pub record Caused (es : List Entry) (slots : Slots) (n : ℕ) : Type 0 where
+  pub known : TableRefusal n
+  pub six : n ≡ 6 → slots .states < stateCount es
+  pub seven : n ≡ 7 → (stateCount es ≤ slots .states) × ((slots .cells < cellCount es) ⊎ (mostCells < cellCount es))
+  pub eight : n ≡ 8 → (stateCount es ≤ slots .states) × (cellCount es ≤ slots .cells) × (cellCount es ≤ mostCells) × (slots .outputs < length es)
+
+-- the slots of slices so long
+abbrev pub slotsOf : ℕ → ℕ → ℕ → ℕ → ℕ → ℕ → ℕ → ℕ → ℕ → ℕ → Slots
+slotsOf trie owns notes spots base link output check depth outs =
+    record { states = smaller trie notes; cells = cellSlots spots base link output check depth; outputs = smaller owns outs }
+
+-- what the phases answer
+abbrev pub PhasesOk : ℕ → List ℕ → List ℕ → List ℕ → ℕ → ℕ → ℕ → ℕ → ℕ → ℕ → ℕ → ℕ → ℕ → ℕ → List ℕ → List ℕ → List ℕ → List ℕ → List ℕ → List (List ℕ) → Progress → Type 0
+PhasesOk kind bytes ends values trie₀ owns₀ notes₀ spots₀ base₀ link₀ output₀ check₀ depth₀ outs₀ base link output check depth outs (Done accepted states blocks) =
+    AllDone kind bytes ends values (slotsOf trie₀ owns₀ notes₀ spots₀ base₀ link₀ output₀ check₀ depth₀ outs₀) base₀ link₀ output₀ check₀ depth₀ outs₀
+    base link output check depth outs accepted states blocks
+PhasesOk kind bytes ends values trie₀ owns₀ notes₀ spots₀ base₀ link₀ output₀ check₀ depth₀ outs₀ base link output check depth outs (Refused n) =
+    Caused (acceptedOf kind bytes ends) (slotsOf trie₀ owns₀ notes₀ spots₀ base₀ link₀ output₀ check₀ depth₀ outs₀) n

@@ -1,0 +1,40 @@
+// The slots that are lent: where they lie in several slices, the shortest counts.
+use nfa::least;
+use table::Depth;
+ghost use mathlib.Core.Path.{_≡_};
+ghost use lib.ListN.{length};
+ghost use Rattle.build.specs.Outcome.{cellSlots, blocksIn};
+
+pub(crate) fn cell_slots(
+    spots: &[[u32; 2]],
+    base: &[u32],
+    link: &[u32],
+    output: &[u32],
+    check: &[u8],
+    depth: &[Depth],
+) -> usize
+    ensures { λ r. ⌜ r ≡ cellSlots (length (now (spots .entry))) (length (now (base .entry))) (length (now (link .entry)))
+        (length (now (output .entry))) (length (now (check .entry))) (length (now (depth .entry))) ⌝ }
+{
+    least(
+        spots.len(),
+        least(
+            base.len(),
+            least(
+                link.len(),
+                least(output.len(), least(check.len(), depth.len())),
+            ),
+        ),
+    )
+}
+
+// The blocks that the slots hold, but no more than the limit.
+pub(crate) fn most_blocks(slots: usize) -> u32
+    ensures { λ r. ⌜ r ≡ blocksIn slots ⌝ }
+{
+    if slots < 65536 {
+        (slots / 256) as u32
+    } else {
+        256
+    }
+}

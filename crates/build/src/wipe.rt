@@ -1,0 +1,37 @@
+// Zero to every element of the lent tables, past the shortest of them too.
+use table::Depth;
+ghost use Rattle.build.specs.Wiped.{WorkingZero, ResultsZero};
+
+pub(crate) fn wipe_working(
+    trie: &mut [[u32; 5]],
+    owns: &mut [[u32; 2]],
+    notes: &mut [[u32; 6]],
+    spots: &mut [[u32; 2]],
+)
+    ensures { λ _. ⌜ WorkingZero (now (trie .entry)) (now (owns .entry)) (now (notes .entry)) (now (spots .entry))
+        (now (trie .exit)) (now (owns .exit)) (now (notes .exit)) (now (spots .exit)) ⌝ }
+{
+    zeros::zero_fives(trie);
+    zeros::zero_pairs(owns);
+    zeros::zero_sixes(notes);
+    zeros::zero_pairs(spots);
+}
+
+pub(crate) fn wipe_results(
+    base: &mut [u32],
+    link: &mut [u32],
+    output: &mut [u32],
+    check: &mut [u8],
+    depth: &mut [Depth],
+    outs: &mut [[u32; 3]],
+)
+    ensures { λ _. ⌜ ResultsZero (now (base .entry)) (now (link .entry)) (now (output .entry)) (now (check .entry)) (now (depth .entry)) (now (outs .entry))
+        (now (base .exit)) (now (link .exit)) (now (output .exit)) (now (check .exit)) (now (depth .exit)) (now (outs .exit)) ⌝ }
+{
+    zeros::zero_words(base);
+    zeros::zero_words(link);
+    zeros::zero_words(output);
+    zeros::zero_bytes(check);
+    zeros::zero_bytes(depth);
+    zeros::zero_triples(outs);
+}

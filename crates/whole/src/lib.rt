@@ -1,0 +1,1 @@
+// Inner: no code. What a build makes of the accepted patterns, and that these tables agree with them.
