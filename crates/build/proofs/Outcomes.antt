@@ -1,45 +1,31 @@
 -- The outcome by its cases: what is told of a list that is not sound, and of a sound one by its slots.
-use mathlib.Core.Path.{_≡_, refl, sym, ap, _∙_, subst}
+use mathlib.Core.Path.{_≡_, sym, _∙_}
 use mathlib.Core.Bool.{true, _||_, or-true}
-use mathlib.Core.List.{List, [], _∷_, _++_}
+use mathlib.Core.List.{List}
 use mathlib.Core.Logic.{_⊎_, ⊎-elim}
-use mathlib.Core.Option.{Option, none, some, Option·none-ne-some}
+use mathlib.Core.Option.{some}
 use Prim.Native.Nat.{ℕ, _≤_, _<_}
-use native.Mathlib.Omega.{arith}
 use lib.Dec.{ltb}
 use lib.ListN.{length}
 use Rattle.paper.specs.Patterns.{Entry}
-use Rattle.paper.proofs.Tests.{test, clash, lt-ltb, le-ltb}
+use Rattle.paper.proofs.Tests.{lt-ltb, le-ltb}
 use Rattle.list.specs.Limits.{mostCells}
-use Rattle.list.specs.Refusals.{Refusal, Told, tells, lowest}
+use Rattle.list.specs.Refusals.{Told, lowest}
 use Rattle.list.specs.Listed.{refusals}
 use Rattle.list.specs.Claims.{Sound}
+use Rattle.list.proofs.Refusals.{lowest-some, lowest-none}
 use Rattle.list.proofs.Sound.{sound-untold}
 use Rattle.nfa.specs.Grown.{acceptedOf}
 use Rattle.whole.specs.Whole.{stateCount, cellCount}
-use Rattle.build.specs.Outcome.{Slots, tableRefusals, allRefusals, Outcome, refused, made, refusal, countsOf, onRefusal, outcomeOf}
+use Rattle.build.specs.Outcome.{Slots, tableRefusals, allRefusals, refused, made, refusal, countsOf, onRefusal, outcomeOf}
 use Rattle.build.specs.Phases.{Fits, Caused}
-
--- ---- the lowest of two lists after each other
-
-lowest-first : (rs more : List Refusal) (t : Told) → lowest rs ≡ some t → lowest (rs ++ more) ≡ some t
-unfolding lowest
-lowest-first [] more t e = absurd (Option·none-ne-some t e)
-lowest-first (r ∷ rs) more t e =
-    test (r .holds) (λ h. rw h (rw h at e)) (λ h. rw h (lowest-first rs more t (rw h at e)))
-
-lowest-second : (rs more : List Refusal) → lowest rs ≡ none → lowest (rs ++ more) ≡ lowest more
-unfolding lowest
-lowest-second [] more e = refl
-lowest-second (r ∷ rs) more e =
-    test (r .holds) (λ h. absurd (Option·none-ne-some (tells r) (sym (rw h at e)))) (λ h. rw h (lowest-second rs more (rw h at e)))
 
 module _ (kind : ℕ) (bytes ends values : List ℕ) (slots : Slots) where
   -- ---- a list that is refused
 
   pub outcome-listed : (t : Told) → lowest (refusals kind bytes ends values) ≡ some t → outcomeOf kind bytes ends values slots ≡ refused t
   unfolding outcomeOf allRefusals
-  outcome-listed t e = rw (lowest-first (refusals kind bytes ends values) (tableRefusals (acceptedOf kind bytes ends) slots) t e)
+  outcome-listed t e = rw (lowest-some (refusals kind bytes ends values) (tableRefusals (acceptedOf kind bytes ends) slots) t e)
 
   -- ---- a sound one
 
@@ -49,7 +35,7 @@ module _ (kind : ℕ) (bytes ends values : List ℕ) (slots : Slots) where
 
     by-table : outcomeOf kind bytes ends values slots ≡ onRefusal (lowest (tableRefusals es slots)) (made (countsOf kind es))
     unfolding outcomeOf allRefusals
-    by-table = rw (lowest-second (refusals kind bytes ends values) (tableRefusals es slots) (sym (sound-untold kind bytes ends values S)))
+    by-table = rw (lowest-none (refusals kind bytes ends values) (tableRefusals es slots) (sym (sound-untold kind bytes ends values S)))
 
     outcome-six : slots .states < stateCount es → outcomeOf kind bytes ends values slots ≡ refusal 6
     unfolding tableRefusals lowest

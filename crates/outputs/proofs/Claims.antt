@@ -94,7 +94,8 @@ row-is : (values : List ℕ) (outs : List Out) (rest : List (List ℕ)) (p : ℕ
     → getD (outRows values outs ++ rest) (p - 1) [] ≡ outRow values (outAt outs p)
 row-is values outs rest p b h = row-at values outs rest (p - 1) (omega arith) ∙ ap (outRow values) (sym (out-at outs p b))
 
-tells-chained : (values : List ℕ) (outs : List Out) (rest : List (List ℕ)) (p : ℕ) (l : List Entry) → Chained outs p l
+-- so the chain of rows tells what the chain of outputs lists
+pub tells-chained : (values : List ℕ) (outs : List Out) (rest : List (List ℕ)) (p : ℕ) (l : List Entry) → Chained outs p l
     → Tells values (outRows values outs ++ rest) (length outs) p l
 tells-chained values outs rest p [] c = c
 tells-chained values outs rest p (x ∷ l) c =

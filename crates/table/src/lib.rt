@@ -2,7 +2,14 @@
 // A search needs nothing else of the tables.
 ghost use mathlib.Core.Path.{_≡_};
 ghost use lib.ListN.{length};
-ghost use Rattle.table.specs.Readers.{there, probeOf, linkOf};
+ghost use Rattle.table.specs.Readers.{there, canEnd, probeOf, linkOf, placeOf, outputOf};
+
+// The fields of an output.
+const VALUE: usize = 0;
+
+const LENGTH: usize = 1;
+
+const NEXT: usize = 2;
 
 // A cell's number. A trie number is another type, so that the two can't be mixed.
 pub struct CellId(pub u32);
@@ -20,6 +27,27 @@ pub enum Found {
 // Where a failure link leads.
 pub enum Linked {
     To(CellId),
+    Damage,
+}
+
+// Where the outputs of a state begin. Places count from 1.
+pub enum Begins {
+    At(u32),
+    Nothing,
+    Damage,
+}
+
+// An output: the value and the length of its pattern, and the place of the next output, 0 for none.
+pub struct Row {
+    pub value: u32,
+    pub length: u32,
+    pub next: u32,
+}
+
+// What stands at a place.
+pub enum Shown {
+    Given(Row),
+    Nothing,
     Damage,
 }
 
@@ -70,4 +98,53 @@ pub fn link(links: &[u32], depth: &[Depth], cells: u32, s: CellId) -> Linked
         }
     }
     Linked::Damage
+}
+
+// Where the outputs of a state begin. Whether an output stands there is judged where it is read.
+pub fn place(output: &[u32], cells: u32, s: CellId) -> Begins
+    ensures { λ r. ⌜ r ≡ placeOf (now (output .entry)) cells (s .0) ⌝ }
+{
+    if is_there(cells, output.len(), s.0) {
+        let p = output[s.0 as usize];
+        if p == 0 {
+            return Begins::Nothing;
+        }
+        return Begins::At(p);
+    }
+    Begins::Damage
+}
+
+// Whether a match of this length can end there: it has a byte, and it begins in the text.
+fn can_end(length: u32, end: usize) -> bool
+    ensures { λ r. ⌜ r ≡ canEnd length end ⌝ }
+{
+    if 0 < length {
+        if (length as usize) <= end {
+            return true;
+        }
+    }
+    false
+}
+
+// The output at a place, for a match that ends at `end`. It is tested whole; the next place is smaller, so that a chain ends on any tables.
+pub fn output(outs: &[[u32; 3]], accepted: u32, place: u32, end: usize) -> Shown
+    ensures { λ r. ⌜ r ≡ outputOf (now (outs .entry)) accepted place end ⌝ }
+{
+    if place == 0 {
+        return Shown::Nothing;
+    }
+    let i = place - 1;
+    if is_there(accepted, outs.len(), i) {
+        let row = outs[i as usize];
+        if row[NEXT] < place {
+            if can_end(row[LENGTH], end) {
+                return Shown::Given(Row {
+                    value: row[VALUE],
+                    length: row[LENGTH],
+                    next: row[NEXT],
+                });
+            }
+        }
+    }
+    Shown::Damage
 }
