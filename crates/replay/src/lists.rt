@@ -1,10 +1,13 @@
-// The pattern list of a case, and the automaton that is made of it.
+// The pattern list of a case, and the tables that are built of it.
 use crate::answers::Found;
+use crate::answers::compare_case;
 use crate::reader::TOO_LARGE;
 use crate::reader::byte;
 use crate::reader::fail;
 use crate::reader::number;
 use crate::reader::wide;
+use build::Built;
+use table::Depth;
 
 fn narrow(cursor: &mut [usize; 3], n: usize) -> u32 {
     if n < 4294967296 {
@@ -79,28 +82,57 @@ fn last_end(ends: &[u32], count: usize) -> usize {
     0
 }
 
-fn found(answer: nfa::Nfa) -> Found {
-    match answer {
-        nfa::Nfa::Made { states, accepted } => Found {
-            refusal: 0,
-            states,
-            accepted,
-        },
-        nfa::Nfa::Refused(refusal) => Found {
-            refusal,
-            states: 0,
-            accepted: 0,
-        },
+fn refused(refusal: u32) -> Found {
+    Found {
+        refusal,
+        states: 0,
+        accepted: 0,
+        cells: 0,
     }
 }
 
-// The tables are made here, so that no other function has to hand them on. A list within the limits has, with root and
-// dead, at most 65,538 states.
-fn make(kind: u32, bytes: &[u8], ends: &[u32], values: &[u32], outs: &mut [[u32; 3]]) -> Found {
+fn found(answer: Built) -> Found {
+    match answer {
+        Built::Made(counts) => Found {
+            refusal: 0,
+            states: counts.states,
+            accepted: counts.accepted,
+            cells: counts.cells,
+        },
+        Built::BadKind => refused(1),
+        Built::BadEnds => refused(2),
+        Built::TooMany => refused(3),
+        Built::Empty(_) => refused(4),
+        Built::TooLong(_) => refused(5),
+        Built::FewStates => refused(6),
+        Built::FewCells => refused(7),
+        Built::FewOutputs => refused(8),
+    }
+}
+
+// The tables are made here, so that no other function has to lend them on. They are ample: a list within the limits has,
+// with root and dead, at most 65,538 states, and no build takes more than 65,536 cells.
+fn compare_built(
+    room: &mut [u8; 4096],
+    cursor: &mut [usize; 3],
+    tally: &mut [u32; 3],
+    case: u32,
+    kind: u32,
+    bytes: &[u8],
+    ends: &[u32],
+    values: &[u32],
+) {
     let mut trie = [[0u32; 5]; 65600];
     let mut owns = [[0u32; 2]; 1100];
     let mut notes = [[0u32; 6]; 65600];
-    found(nfa::make(
+    let mut spots = [[0u32; 2]; 65600];
+    let mut base = [0u32; 65600];
+    let mut link = [0u32; 65600];
+    let mut output = [0u32; 65600];
+    let mut check = [0u8; 65600];
+    let mut depth: [Depth; 65600] = [0; 65600];
+    let mut outs = [[0u32; 3]; 1100];
+    let found = found(build::build(
         kind,
         bytes,
         ends,
@@ -108,37 +140,58 @@ fn make(kind: u32, bytes: &[u8], ends: &[u32], values: &[u32], outs: &mut [[u32;
         &mut trie,
         &mut owns,
         &mut notes,
-        outs,
-    ))
+        &mut spots,
+        &mut base,
+        &mut link,
+        &mut output,
+        &mut check,
+        &mut depth,
+        &mut outs,
+    ));
+    compare_case(
+        room,
+        cursor,
+        tally,
+        case,
+        kind,
+        found,
+        &base,
+        &link,
+        &output,
+        &check,
+        &outs,
+    );
 }
 
-// What is found for the first `count` patterns of the tables.
-pub(crate) fn ask(
+// Compares what is built of the first `count` patterns.
+pub(crate) fn compare_list(
+    room: &mut [u8; 4096],
+    cursor: &mut [usize; 3],
+    tally: &mut [u32; 3],
+    case: u32,
     kind: u32,
     bytes: &[u8],
     ends: &[u32],
     values: &[u32],
     count: usize,
-    outs: &mut [[u32; 3]],
-) -> Found {
+) {
     let length = last_end(ends, count);
     if length <= bytes.len() {
         if count <= ends.len() {
             if count <= values.len() {
-                return make(
+                compare_built(
+                    room,
+                    cursor,
+                    tally,
+                    case,
                     kind,
                     &bytes[..length],
                     &ends[..count],
                     &values[..count],
-                    outs,
                 );
+                return;
             }
         }
     }
-    // The tables do not hold what was counted. No limit has this number, so it is told as a difference.
-    Found {
-        refusal: u32::MAX,
-        states: 0,
-        accepted: 0,
-    }
+    fail(cursor, TOO_LARGE);
 }

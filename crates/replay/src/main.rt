@@ -1,12 +1,12 @@
-// Compares the automata of the recorded lists with the recorded answers of the published crate. Standard input is
-// the sample; what agrees is counted, and what differs is told.
+// Compares what is built of the recorded lists with the recorded answers of the published crate: refusals, counts, cells
+// and outputs. Standard input is the sample; what agrees is counted, and what differs is told.
 mod answers;
 mod lists;
 mod reader;
+mod tables;
 mod tally;
 
-use answers::compare_case;
-use lists::ask;
+use lists::compare_list;
 use lists::read_list;
 use reader::CUT_OFF;
 use reader::FAULT;
@@ -25,12 +25,20 @@ fn run_case(room: &mut [u8; 4096], cursor: &mut [usize; 3], tally: &mut [u32; 3]
     let mut bytes = [0u8; 65600];
     let mut ends = [0u32; 1100];
     let mut values = [0u32; 1100];
-    let mut outs = [[0u32; 3]; 1100];
     let kind = number(room, cursor);
     let count = read_list(room, cursor, &mut bytes, &mut ends, &mut values);
     if is_sound(cursor) {
-        let found = ask(kind, &bytes, &ends, &values, count, &mut outs);
-        compare_case(room, cursor, tally, case, kind, found, &outs);
+        compare_list(
+            room,
+            cursor,
+            tally,
+            case,
+            kind,
+            &bytes,
+            &ends,
+            &values,
+            count,
+        );
     }
     // A case that cannot be read is a difference like any other.
     if !is_sound(cursor) {

@@ -2,3 +2,4 @@ pub mod Slots
 pub mod Chains
 pub mod Agreement
 pub mod Claims
+pub mod Cases

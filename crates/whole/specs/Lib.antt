@@ -1,2 +1,3 @@
 pub mod Whole
 pub mod Claims
+pub mod Cases

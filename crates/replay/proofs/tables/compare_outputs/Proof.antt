@@ -1,15 +1,15 @@
--- `answers::compare_outputs` ends: it counts up to a number that stays. Nothing has to hold from turn to turn.
+-- `tables::compare_outputs` ends: it counts up to a number that stays. Nothing has to hold from turn to turn.
 use Prim.Native.Nat.{_-_}
 use native.Mathlib.Omega.{arith}
 use borrow.Author.Needs.{needs}
-use Rattle.replay.proofs.answers.compare_outputs.Statement.{statement}
-use Rattle.replay.proofs.answers.compare_outputs.Tie as tie
+use Rattle.replay.proofs.tables.compare_outputs.Statement.{statement}
+use Rattle.replay.proofs.tables.compare_outputs.Tie as tie
 
 abbrev Inv-loop : tie.InvT-loop
-Inv-loop room₀ cursor₀ tally₀ case made accepted outs count k₀ room cursor tally k = Unit {0}
+Inv-loop room₀ cursor₀ tally₀ case outs accepted count k₀ room cursor tally k = Unit {0}
 
 abbrev μ-loop : tie.MeasureT-loop
-μ-loop room₀ cursor₀ tally₀ case made accepted outs count k₀ room cursor tally k = count - k
+μ-loop room₀ cursor₀ tally₀ case outs accepted count k₀ room cursor tally k = count - k
 
 number-requires : tie.Need-number-requires Inv-loop μ-loop
 number-requires c κs = search needs
