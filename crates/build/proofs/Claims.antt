@@ -26,9 +26,10 @@ use Rattle.cells.specs.Columns.{column}
 use Rattle.whole.specs.Whole.{stateCount, cellCount, cellsOf}
 use Rattle.whole.specs.Whole as whole
 use Rattle.whole.proofs.Agreement as agreement
-use Rattle.build.specs.Outcome.{Slots, tableRefusals, allRefusals, Outcome, refused, made, refusal, answer, countsOf, onRefusal, outcomeOf}
-use Rattle.build.specs.Phases.{Fits, slotsOf}
-use Rattle.build.specs.Wiped.{blank, blankRows}
+use Rattle.whole.specs.Refusing.{Lent, tableRefusals, allRefusals, Fits}
+use Rattle.build.specs.Outcome.{Outcome, refused, made, refusal, answer, countsOf, onRefusal, outcomeOf}
+use Rattle.build.specs.Phases.{slotsOf}
+use Rattle.wipe.specs.Wiped.{blank, blankRows}
 use Rattle.build.specs.Promise.{left, outputRows, Promise}
 use Rattle.build.specs.Claims.{AnswerClaims, Same, BuildClaims}
 use Rattle.build.specs.declared.Counts.{Counts}
@@ -73,7 +74,7 @@ unfolding anyHolds
 any-append [] qs = refl
 any-append (r ∷ rs) qs = test (r .holds) (λ h. rw h) (λ h. rw h (any-append rs qs))
 
-module _ (kind : ℕ) (bytes ends values : List ℕ) (slots : Slots) where
+module _ (kind : ℕ) (bytes ends values : List ℕ) (slots : Lent) where
   abbrev es : List Entry
   es = acceptedOf kind bytes ends
 
@@ -142,9 +143,11 @@ module _ (kind : ℕ) (bytes ends values : List ℕ) (slots : Slots) where
       let six = ltb (slots .states) (stateCount es) in
       let lent = ltb (slots .cells) (cellCount es) in
       let most = ltb mostCells (cellCount es) in
-      let seven = or-not-left (lent || most) false (or-not-right six ((lent || most) || false) h) in
-      (ltb-le (slots .states) (stateCount es) (or-not-left six ((lent || most) || false) h),
-      ltb-le (slots .cells) (cellCount es) (or-not-left lent most seven), ltb-le mostCells (cellCount es) (or-not-right lent most seven))
+      let seven = or-not-left (lent || most) false (or-not-right six ((lent || most) || false) h) in (
+        ltb-le (slots .states) (stateCount es) (or-not-left six ((lent || most) || false) h),
+        ltb-le (slots .cells) (cellCount es) (or-not-left lent most seven),
+        ltb-le mostCells (cellCount es) (or-not-right lent most seven),
+      )
 
   over-outputs : (entry (allRefusals kind bytes ends values slots) 7) .holds ≡ true → slots .outputs < length es
   unfolding allRefusals refusals tableRefusals
@@ -159,9 +162,11 @@ module _ (kind : ℕ) (bytes ends values : List ℕ) (slots : Slots) where
   unfolding allRefusals refusals tableRefusals
   seven-told e =
       let q = row 6 (omega arith) 0 e in
-      let none = sym rows-to-seven ∙ q .1 in
-      (sound-quiet (or-not-left (anyHolds (refusals kind bytes ends values)) (anyHolds (take 1 (tableRefusals es slots))) none),
-      within-states (or-not-right (anyHolds (refusals kind bytes ends values)) (anyHolds (take 1 (tableRefusals es slots))) none), over-cells (q .0))
+      let none = sym rows-to-seven ∙ q .1 in (
+        sound-quiet (or-not-left (anyHolds (refusals kind bytes ends values)) (anyHolds (take 1 (tableRefusals es slots))) none),
+        within-states (or-not-right (anyHolds (refusals kind bytes ends values)) (anyHolds (take 1 (tableRefusals es slots))) none),
+        over-cells (q .0),
+      )
 
   eight-told : outcomeOf kind bytes ends values slots ≡ refusal 8
       → Sound kind bytes ends values × (stateCount es ≤ slots .states) × (cellCount es ≤ slots .cells) × (cellCount es ≤ mostCells) × (slots .outputs < length es)
@@ -185,14 +190,15 @@ module _ (kind : ℕ) (bytes ends values : List ℕ) (slots : Slots) where
       let most = ltb mostCells (cellCount es) in
       let eight = ltb (slots .outputs) (length es) in
       let after = or-not-right six ((lent || most) || (eight || false)) last in
-      let seven = or-not-left (lent || most) (eight || false) after in
-      (sound-quiet (or-not-left first (anyHolds (tableRefusals es slots)) none),
-      record {
-        states = ltb-le (slots .states) (stateCount es) (or-not-left six ((lent || most) || (eight || false)) last);
-        cells = ltb-le (slots .cells) (cellCount es) (or-not-left lent most seven);
-        most = ltb-le mostCells (cellCount es) (or-not-right lent most seven);
-        outputs = ltb-le (slots .outputs) (length es) (or-not-left eight false (or-not-right (lent || most) (eight || false) after));
-      })
+      let seven = or-not-left (lent || most) (eight || false) after in (
+        sound-quiet (or-not-left first (anyHolds (tableRefusals es slots)) none),
+        record {
+          states = ltb-le (slots .states) (stateCount es) (or-not-left six ((lent || most) || (eight || false)) last);
+          cells = ltb-le (slots .cells) (cellCount es) (or-not-left lent most seven);
+          most = ltb-le mostCells (cellCount es) (or-not-right lent most seven);
+          outputs = ltb-le (slots .outputs) (length es) (or-not-left eight false (or-not-right (lent || most) (eight || false) after));
+        },
+      )
 
   pub answer-claims : AnswerClaims kind bytes ends values slots
   answer-claims =
@@ -200,20 +206,26 @@ module _ (kind : ℕ) (bytes ends values : List ℕ) (slots : Slots) where
         told = told;
         exactly = λ k h. exactly (allRefusals kind bytes ends values slots) k (rw eight-rows h) distinct-all;
         six = (six-told, λ q. outcome-caused kind bytes ends values slots (q .0) 6 (six es slots (q .1)));
-        seven = (seven-told, λ q. outcome-caused kind bytes ends values slots (q .0) 7
-            (record {
-              known = inr (inl refl);
-              six = λ z. absurd (omega (arith, z));
-              seven = λ z. (q .1, q .2);
-              eight = λ z. absurd (omega (arith, z));
-            }));
-        eight = (eight-told, λ q. outcome-caused kind bytes ends values slots (q .0) 8
-            (record {
-              known = inr (inr refl);
-              six = λ z. absurd (omega (arith, z));
-              seven = λ z. absurd (omega (arith, z));
-              eight = λ z. (q .1, q .2, q .3, q .4);
-            }));
+        seven = (
+          seven-told,
+          λ q. outcome-caused kind bytes ends values slots (q .0) 7
+              (record {
+                known = inr (inl refl);
+                six = λ z. absurd (omega (arith, z));
+                seven = λ z. (q .1, q .2);
+                eight = λ z. absurd (omega (arith, z));
+              }),
+        );
+        eight = (
+          eight-told,
+          λ q. outcome-caused kind bytes ends values slots (q .0) 8
+              (record {
+                known = inr (inr refl);
+                six = λ z. absurd (omega (arith, z));
+                seven = λ z. absurd (omega (arith, z));
+                eight = λ z. (q .1, q .2, q .3, q .4);
+              }),
+        );
         good = ((λ e. good-told (countsOf kind es) e), λ q. outcome-made kind bytes ends values slots (q .0) (q .1));
       }
 
@@ -260,7 +272,7 @@ module _ (kind : ℕ) (bytes ends values : List ℕ) (trie₀ owns₀ notes₀ s
 
   module _ {trie owns notes spots : List (List ℕ)} {base link output check depth : List ℕ} {outs : List (List ℕ)} {counts : Counts} (B : Bytes bytes)
       (P : Promise kind bytes ends values trie₀ owns₀ notes₀ spots₀ base₀ link₀ output₀ check₀ depth₀ outs₀ trie owns notes spots base link output check depth outs (Made counts)) where
-    lent : Slots
+    lent : Lent
     lent = slotsOf (length trie₀) (length owns₀) (length notes₀) (length spots₀) (length base₀) (length link₀) (length output₀) (length check₀) (length depth₀) (length outs₀)
 
     outcome-here : outcomeOf kind bytes ends values lent ≡ made counts

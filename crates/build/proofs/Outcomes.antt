@@ -1,14 +1,11 @@
 -- The outcome by its cases: what is told of a list that is not sound, and of a sound one by its slots.
-use mathlib.Core.Path.{_≡_, sym, _∙_}
-use mathlib.Core.Bool.{true, _||_, or-true}
+use mathlib.Core.Path.{_≡_, sym, ap, _∙_}
 use mathlib.Core.List.{List}
 use mathlib.Core.Logic.{_⊎_, ⊎-elim}
 use mathlib.Core.Option.{some}
 use Prim.Native.Nat.{ℕ, _≤_, _<_}
-use lib.Dec.{ltb}
 use lib.ListN.{length}
 use Rattle.paper.specs.Patterns.{Entry}
-use Rattle.paper.proofs.Tests.{lt-ltb, le-ltb}
 use Rattle.list.specs.Limits.{mostCells}
 use Rattle.list.specs.Refusals.{Told, lowest}
 use Rattle.list.specs.Listed.{refusals}
@@ -17,10 +14,12 @@ use Rattle.list.proofs.Refusals.{lowest-some, lowest-none}
 use Rattle.list.proofs.Sound.{sound-untold}
 use Rattle.nfa.specs.Grown.{acceptedOf}
 use Rattle.whole.specs.Whole.{stateCount, cellCount}
-use Rattle.build.specs.Outcome.{Slots, tableRefusals, allRefusals, refused, made, refusal, countsOf, onRefusal, outcomeOf}
-use Rattle.build.specs.Phases.{Fits, Caused}
+use Rattle.whole.specs.Refusing.{Lent, tableRefusals, allRefusals, Fits}
+use Rattle.whole.proofs.Refusing.{lowest-six, lowest-seven, lowest-eight, lowest-fitting}
+use Rattle.build.specs.Outcome.{refused, made, refusal, countsOf, onRefusal, outcomeOf}
+use Rattle.build.specs.Phases.{Caused}
 
-module _ (kind : ℕ) (bytes ends values : List ℕ) (slots : Slots) where
+module _ (kind : ℕ) (bytes ends values : List ℕ) (slots : Lent) where
   -- ---- a list that is refused
 
   pub outcome-listed : (t : Told) → lowest (refusals kind bytes ends values) ≡ some t → outcomeOf kind bytes ends values slots ≡ refused t
@@ -38,33 +37,17 @@ module _ (kind : ℕ) (bytes ends values : List ℕ) (slots : Slots) where
     by-table = rw (lowest-none (refusals kind bytes ends values) (tableRefusals es slots) (sym (sound-untold kind bytes ends values S)))
 
     outcome-six : slots .states < stateCount es → outcomeOf kind bytes ends values slots ≡ refusal 6
-    unfolding tableRefusals lowest
-    outcome-six h = by-table ∙ rw (lt-ltb (slots .states) (stateCount es) h)
-
-    over : (a b n : ℕ) → (a < n) ⊎ (b < n) → (ltb a n || ltb b n) ≡ true
-    over a b n q = ⊎-elim (λ h. rw (lt-ltb a n h)) (λ h. rw (lt-ltb b n h) (or-true (ltb a n))) q
+    outcome-six h = by-table ∙ ap (λ o. onRefusal o (made (countsOf kind es))) (lowest-six es slots h)
 
     outcome-seven : stateCount es ≤ slots .states → (slots .cells < cellCount es) ⊎ (mostCells < cellCount es) → outcomeOf kind bytes ends values slots ≡ refusal 7
-    unfolding tableRefusals lowest
-    outcome-seven h q = by-table ∙ rw (le-ltb (slots .states) (stateCount es) h, over (slots .cells) mostCells (cellCount es) q)
+    outcome-seven h q = by-table ∙ ap (λ o. onRefusal o (made (countsOf kind es))) (lowest-seven es slots h q)
 
     outcome-eight : stateCount es ≤ slots .states → cellCount es ≤ slots .cells → cellCount es ≤ mostCells → slots .outputs < length es
         → outcomeOf kind bytes ends values slots ≡ refusal 8
-    unfolding tableRefusals lowest
-    outcome-eight h i j k =
-        by-table
-        ∙ rw (le-ltb (slots .states) (stateCount es) h, le-ltb (slots .cells) (cellCount es) i, le-ltb mostCells (cellCount es) j, lt-ltb (slots .outputs) (length es) k)
+    outcome-eight h i j k = by-table ∙ ap (λ o. onRefusal o (made (countsOf kind es))) (lowest-eight es slots h i j k)
 
     pub outcome-made : Fits es slots → outcomeOf kind bytes ends values slots ≡ made (countsOf kind es)
-    unfolding tableRefusals lowest
-    outcome-made F =
-        by-table
-        ∙ rw (
-          le-ltb (slots .states) (stateCount es) (F .states),
-          le-ltb (slots .cells) (cellCount es) (F .cells),
-          le-ltb mostCells (cellCount es) (F .most),
-          le-ltb (slots .outputs) (length es) (F .outputs),
-        )
+    outcome-made F = by-table ∙ ap (λ o. onRefusal o (made (countsOf kind es))) (lowest-fitting es slots F)
 
     -- a refusal with its cause is told
     pub outcome-caused : (n : ℕ) → Caused es slots n → outcomeOf kind bytes ends values slots ≡ refusal n

@@ -32,9 +32,10 @@ use Rattle.placement.specs.declared.Blocks.{Blocks}
 use Rattle.placement.specs.declared.Blocks.the-variants.{Now, Full}
 use Rattle.cells.specs.Columns.{Writable, Written}
 use Rattle.whole.specs.Whole.{stateCount, layoutOf, cellCount, cellsOf, outputsOf}
-use Rattle.build.specs.Outcome.{Slots, blocksIn}
-use Rattle.build.specs.Wiped.{blank, blankRows}
-use Rattle.build.specs.Phases.{Layable, LaidDown, LaidBy, Fillable, Filled, Fits, Caused}
+use Rattle.whole.specs.Refusing.{Lent, Fits}
+use Rattle.build.specs.Outcome.{blocksIn}
+use Rattle.wipe.specs.Wiped.{blank, blankRows}
+use Rattle.build.specs.Phases.{Layable, LaidDown, LaidBy, Fillable, Filled, Caused}
 use Rattle.build.proofs.Counting.{blocks-room, blocks-full}
 
 -- ---- the layout
@@ -136,7 +137,7 @@ module _ (es : List Entry) (notes₀ notes spots : List (List ℕ)) (most : ℕ)
   as-overlaid e = subst (λ (x : Blocks). LaidBy es notes₀ notes spots most x) e L
 
 -- 6 with its cause
-pub six : (es : List Entry) (slots : Slots) → slots .states < stateCount es → Caused es slots 6
+pub six : (es : List Entry) (slots : Lent) → slots .states < stateCount es → Caused es slots 6
 six es slots h =
     record { known = inl refl; six = λ e. h; seven = λ e. absurd (omega (arith, e)); eight = λ e. absurd (omega (arith, e)) }
 
@@ -164,7 +165,7 @@ module _ {kind : ℕ} {bytes ends values : List ℕ} (S : Sound kind bytes ends 
       }
 
   -- 7 with its cause
-  pub seven : (slots : Slots) (most : ℕ) → slots .states ≡ room → most ≡ blocksIn (slots .cells) → most < (layoutOf es) .blocks → Caused es slots 7
+  pub seven : (slots : Lent) (most : ℕ) → slots .states ≡ room → most ≡ blocksIn (slots .cells) → most < (layoutOf es) .blocks → Caused es slots 7
   seven slots most e f h =
       record {
         known = inr (inl refl);
@@ -173,7 +174,7 @@ module _ {kind : ℕ} {bytes ends values : List ℕ} (S : Sound kind bytes ends 
         eight = λ z. absurd (omega (arith, z));
       }
 
-  module _ {notes' spots : List (List ℕ)} {most blocks : ℕ} (D : LaidDown es notes notes' spots most blocks) (slots : Slots) (e : slots .states ≡ room)
+  module _ {notes' spots : List (List ℕ)} {most blocks : ℕ} (D : LaidDown es notes notes' spots most blocks) (slots : Lent) (e : slots .states ≡ room)
       (f : most ≡ blocksIn (slots .cells)) where
     -- the cells are within the slots and the limit
     pub cells-fit : (blocks * block ≤ slots .cells) × (blocks * block ≤ mostCells)

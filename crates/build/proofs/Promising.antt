@@ -20,7 +20,7 @@ use Rattle.plan.proofs.Names.{from-long}
 use Rattle.nfa.specs.Grown.{acceptedOf}
 use Rattle.whole.specs.Whole.{stateCount, cellCount}
 use Rattle.build.specs.Outcome.{TableRefusal, Outcome, refused, made, refusal, answer, countsOf, outcomeOf}
-use Rattle.build.specs.Wiped.{blank, blankRows, WorkingZero, ResultsZero}
+use Rattle.wipe.specs.Wiped.{blank, blankRows, WorkingZero, ResultsZero}
 use Rattle.build.specs.Phases.{Prepared, AllDone, Caused, slotsOf, PhasesOk}
 use Rattle.build.specs.Promise.{Promise}
 use Rattle.build.specs.declared.phases.Progress.{Progress}

@@ -13,15 +13,15 @@ use Rattle.list.specs.Claims.{Bytes, Sound}
 use Rattle.table.specs.Agrees.{Tables, Agrees}
 use Rattle.nfa.specs.Grown.{acceptedOf}
 use Rattle.whole.specs.Whole.{stateCount, cellCount}
-use Rattle.build.specs.Outcome.{Slots, allRefusals, refused, made, refusal, countsOf, outcomeOf}
-use Rattle.build.specs.Phases.{Fits}
+use Rattle.whole.specs.Refusing.{Lent, allRefusals, Fits}
+use Rattle.build.specs.Outcome.{refused, made, refusal, countsOf, outcomeOf}
 use Rattle.build.specs.Promise.{Promise}
 use Rattle.build.specs.declared.Counts.{Counts}
 use Rattle.build.specs.declared.Built.{Built}
 use Rattle.build.specs.declared.Built.the-variants.{Made}
 
 -- when each answer is given
-pub record AnswerClaims (kind : ℕ) (bytes ends values : List ℕ) (slots : Slots) : Type 0 where
+pub record AnswerClaims (kind : ℕ) (bytes ends values : List ℕ) (slots : Lent) : Type 0 where
   -- a refusal is told exactly if it is the lowest that applies
   pub told : (t : Told) → (outcomeOf kind bytes ends values slots ≡ refused t) ↔ (lowest (allRefusals kind bytes ends values slots) ≡ some t)
   -- each number is told exactly when the condition of its row holds and none of a row before it does, 4 and 5 with their index

@@ -1,5 +1,4 @@
 pub mod Outcome
-pub mod Wiped
 pub mod Phases
 pub mod Promise
 pub mod Claims

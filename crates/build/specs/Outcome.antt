@@ -1,7 +1,6 @@
 -- What a build answers: the lowest refusal of document 01's table that applies, or the counts of a good build.
 use mathlib.Core.Path.{_≡_}
-use mathlib.Core.Bool.{_||_}
-use mathlib.Core.List.{List, [], _∷_, _++_}
+use mathlib.Core.List.{List}
 use mathlib.Core.Logic.{_⊎_}
 use mathlib.Core.Option.{Option, none, some}
 use Prim.Native.Nat.{ℕ, _-_, _/_}
@@ -10,21 +9,15 @@ use lib.ListN.{length}
 use Rattle.paper.specs.Lists.{pick}
 use Rattle.paper.specs.Patterns.{Entry}
 use Rattle.list.specs.Limits.{block, mostCells}
-use Rattle.list.specs.Refusals.{Refusal, Told, plainly, lowest}
-use Rattle.list.specs.Listed.{refusals}
+use Rattle.list.specs.Refusals.{Told, lowest}
 use Rattle.nfa.specs.Grown.{acceptedOf, smaller}
 use Rattle.whole.specs.Whole.{stateCount, cellCount}
+use Rattle.whole.specs.Refusing.{Lent, allRefusals}
 use Rattle.build.specs.declared.Counts.{Counts}
 use Rattle.build.specs.declared.Built.{Built}
 use Rattle.build.specs.declared.Built.the-variants.{Made, BadKind, BadEnds, TooMany, Empty, TooLong, FewStates, FewCells, FewOutputs}
 
 -- ---- the slots lent
-
--- how many slots of states, of cells and of outputs there are
-pub record Slots : Type 0 where
-  pub states : ℕ
-  pub cells : ℕ
-  pub outputs : ℕ
 
 -- where the slots lie in several slices, the shortest counts
 abbrev pub cellSlots : ℕ → ℕ → ℕ → ℕ → ℕ → ℕ → ℕ
@@ -33,20 +26,6 @@ cellSlots spots base link output check depth = smaller spots (smaller base (smal
 -- the blocks that so many slots hold, within the limit
 abbrev pub blocksIn : ℕ → ℕ
 blocksIn slots = pick (ltb slots mostCells) (slots / block) (mostCells / block)
-
--- ---- the refusals in their order
-
--- document 01's table, 6 to 8
-unfoldable pub tableRefusals : List Entry → Slots → List Refusal
-tableRefusals es slots =
-    plainly 6 (ltb (slots .states) (stateCount es))
-    ∷ plainly 7 (ltb (slots .cells) (cellCount es) || ltb mostCells (cellCount es))
-    ∷ plainly 8 (ltb (slots .outputs) (length es))
-    ∷ []
-
--- document 01's table, 1 to 8
-unfoldable pub allRefusals : ℕ → List ℕ → List ℕ → List ℕ → Slots → List Refusal
-allRefusals kind bytes ends values slots = refusals kind bytes ends values ++ tableRefusals (acceptedOf kind bytes ends) slots
 
 -- ---- the answer
 
@@ -81,7 +60,7 @@ onRefusal none good = good
 onRefusal (some t) good = refused t
 
 -- what a build answers
-unfoldable pub outcomeOf : ℕ → List ℕ → List ℕ → List ℕ → Slots → Outcome
+unfoldable pub outcomeOf : ℕ → List ℕ → List ℕ → List ℕ → Lent → Outcome
 outcomeOf kind bytes ends values slots = onRefusal (lowest (allRefusals kind bytes ends values slots)) (made (countsOf kind (acceptedOf kind bytes ends)))
 
 -- the numbers of the refusals for lent tables

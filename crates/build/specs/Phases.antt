@@ -20,8 +20,9 @@ use Rattle.placement.specs.declared.Blocks.the-variants.{Now, Full}
 use Rattle.cells.specs.Columns.{Blanks, Written}
 use Rattle.nfa.specs.Grown.{acceptedOf, smaller}
 use Rattle.whole.specs.Whole.{stateCount, layoutOf, cellCount, cellsOf, outputsOf}
-use Rattle.build.specs.Outcome.{Slots, cellSlots, TableRefusal}
-use Rattle.build.specs.Wiped.{blank, blankRows}
+use Rattle.whole.specs.Refusing.{Lent, Fits}
+use Rattle.build.specs.Outcome.{cellSlots, TableRefusal}
+use Rattle.wipe.specs.Wiped.{blank, blankRows}
 use Rattle.build.specs.declared.phases.Progress.{Progress}
 use Rattle.build.specs.declared.phases.Progress.the-variants.{Done, Refused}
 
@@ -90,15 +91,8 @@ pub record Prepared (kind : ℕ) (bytes ends values : List ℕ) (spots : List (L
   pub depth-blank : depth ≡ blank depth
   pub outs-blank : outs ≡ blankRows 3 outs
 
--- the slots suffice
-pub record Fits (es : List Entry) (slots : Slots) : Type 0 where
-  pub states : stateCount es ≤ slots .states
-  pub cells : cellCount es ≤ slots .cells
-  pub most : cellCount es ≤ mostCells
-  pub outputs : length es ≤ slots .outputs
-
 -- all is done, and these are the counts
-pub record AllDone (kind : ℕ) (bytes ends values : List ℕ) (slots : Slots) (base₀ link₀ output₀ check₀ depth₀ outs₀ : ℕ) (base link output check depth : List ℕ)
+pub record AllDone (kind : ℕ) (bytes ends values : List ℕ) (slots : Lent) (base₀ link₀ output₀ check₀ depth₀ outs₀ : ℕ) (base link output check depth : List ℕ)
     (outs : List (List ℕ)) (accepted states blocks : ℕ) : Type 0 where
   pub fits : Fits (acceptedOf kind bytes ends) slots
   pub states-are : states ≡ stateCount (acceptedOf kind bytes ends)
@@ -106,14 +100,14 @@ pub record AllDone (kind : ℕ) (bytes ends values : List ℕ) (slots : Slots) (
   pub filled : Filled (kindOf kind) (acceptedOf kind bytes ends) values base₀ link₀ output₀ check₀ depth₀ outs₀ base link output check depth outs accepted
 
 -- a refusal has its cause, and none before it has
-pub record Caused (es : List Entry) (slots : Slots) (n : ℕ) : Type 0 where
+pub record Caused (es : List Entry) (slots : Lent) (n : ℕ) : Type 0 where
   pub known : TableRefusal n
   pub six : n ≡ 6 → slots .states < stateCount es
   pub seven : n ≡ 7 → (stateCount es ≤ slots .states) × ((slots .cells < cellCount es) ⊎ (mostCells < cellCount es))
   pub eight : n ≡ 8 → (stateCount es ≤ slots .states) × (cellCount es ≤ slots .cells) × (cellCount es ≤ mostCells) × (slots .outputs < length es)
 
 -- the slots of slices so long
-abbrev pub slotsOf : ℕ → ℕ → ℕ → ℕ → ℕ → ℕ → ℕ → ℕ → ℕ → ℕ → Slots
+abbrev pub slotsOf : ℕ → ℕ → ℕ → ℕ → ℕ → ℕ → ℕ → ℕ → ℕ → ℕ → Lent
 slotsOf trie owns notes spots base link output check depth outs =
     record { states = smaller trie notes; cells = cellSlots spots base link output check depth; outputs = smaller owns outs }
 

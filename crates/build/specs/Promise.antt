@@ -13,7 +13,7 @@ use Rattle.cells.specs.Columns.{column}
 use Rattle.nfa.specs.Grown.{acceptedOf}
 use Rattle.whole.specs.Whole.{cellsOf, outputsOf}
 use Rattle.build.specs.Outcome.{Outcome, refused, made, answer, outcomeOf}
-use Rattle.build.specs.Wiped.{blank, blankRows}
+use Rattle.wipe.specs.Wiped.{blank, blankRows}
 use Rattle.build.specs.Phases.{slotsOf}
 use Rattle.build.specs.declared.Built.{Built}
 

@@ -2,6 +2,8 @@
 // after a good build; nothing is changed by 1 to 5, and all is zero after 6 to 8.
 use list::Listing;
 use table::Depth;
+use wipe::wipe_results;
+use wipe::wipe_working;
 ghost use mathlib.Core.Path.{_≡_};
 ghost use Rattle.list.specs.Claims.{Sound};
 ghost use Rattle.build.specs.Outcome.{TableRefusal, answer, refusal};
@@ -9,12 +11,9 @@ ghost use Rattle.build.specs.Promise.{Promise};
 
 mod phases;
 mod slots;
-mod wipe;
 
 use phases::Progress;
 use phases::phases;
-use wipe::wipe_results;
-use wipe::wipe_working;
 
 // What a good build answers. The states count root and not dead.
 pub struct Counts {

@@ -3,3 +3,4 @@ pub mod Chains
 pub mod Agreement
 pub mod Claims
 pub mod Cases
+pub mod Refusing

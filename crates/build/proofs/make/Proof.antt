@@ -12,8 +12,8 @@ use Rattle.build.proofs.make.Reads as reads
 use Rattle.build.proofs.make.Lts as lts
 use Rattle.build.proofs.phases.phases.Reads as phases-reads
 use Rattle.build.proofs.refused.Reads as refused-reads
-use Rattle.build.proofs.wipe.wipe_results.Reads as wipe-results-reads
-use Rattle.build.proofs.wipe.wipe_working.Reads as wipe-working-reads
+use Rattle.wipe.proofs.wipe_results.Reads as wipe-results-reads
+use Rattle.wipe.proofs.wipe_working.Reads as wipe-working-reads
 use Rattle.zeros.proofs.zero_pairs.Reads as zero-pairs-reads
 
 -- src/lib.rt:85:5

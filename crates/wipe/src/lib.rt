@@ -1,8 +1,8 @@
-// Zero to every element of the lent tables, past the shortest of them too.
+// Inner: zero to every element of the lent tables of a build, past the shortest of them too.
 use table::Depth;
-ghost use Rattle.build.specs.Wiped.{WorkingZero, ResultsZero};
+ghost use Rattle.wipe.specs.Wiped.{WorkingZero, ResultsZero};
 
-pub(crate) fn wipe_working(
+pub fn wipe_working(
     trie: &mut [[u32; 5]],
     owns: &mut [[u32; 2]],
     notes: &mut [[u32; 6]],
@@ -17,7 +17,7 @@ pub(crate) fn wipe_working(
     zeros::zero_pairs(spots);
 }
 
-pub(crate) fn wipe_results(
+pub fn wipe_results(
     base: &mut [u32],
     link: &mut [u32],
     output: &mut [u32],
