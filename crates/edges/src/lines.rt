@@ -1,0 +1,14 @@
+// Parts of a printed line.
+
+pub(crate) fn say(text: &[u8]) {
+    io::write_all(1, text);
+}
+
+pub(crate) fn print_number(n: u32) {
+    io::print_decimal(1, n as u64);
+}
+
+pub(crate) fn print_field(name: &[u8], n: u64) {
+    say(name);
+    io::print_decimal(1, n);
+}
