@@ -1,6 +1,19 @@
 // Inner: zero to every element of the lent tables of a build, past the shortest of them too.
 use table::Depth;
+ghost use mathlib.Core.Path.{_≡_};
+ghost use lib.ListN.{length, replicate};
 ghost use Rattle.wipe.specs.Wiped.{WorkingZero, ResultsZero};
+
+// The depths, whatever their width is.
+fn zero_depths(s: &mut [Depth])
+    ensures { λ _. ⌜ now (s .exit) ≡ replicate (length (now (s .entry))) 0 ⌝ }
+{
+    let mut i = 0;
+    while i < s.len() {
+        s[i] = 0;
+        i += 1;
+    }
+}
 
 pub fn wipe_working(
     trie: &mut [[u32; 5]],
@@ -32,6 +45,6 @@ pub fn wipe_results(
     zeros::zero_words(link);
     zeros::zero_words(output);
     zeros::zero_bytes(check);
-    zeros::zero_bytes(depth);
+    zero_depths(depth);
     zeros::zero_triples(outs);
 }
