@@ -161,7 +161,7 @@ fn print_promise(refusal: u32, kept: bool) {
     if !kept {
         say(b"; the tables are NOT left as promised\n");
     } else if refusal == 0 {
-        say(b"; working tables and unused slots zerx\n");
+        say(b"; working tables and unused slots zero\n");
     } else if is_untouched(refusal) {
         say(b"; tables as they were\n");
     } else {
