@@ -21,7 +21,8 @@ use Rattle.list.proofs.Refusals.{exactly}
 use Rattle.list.proofs.Sound.{fine-sound}
 use Rattle.table.specs.Agrees.{Agrees}
 use Rattle.nfa.specs.Grown.{acceptedOf}
-use Rattle.nfa.proofs.Accepted.{within, fit, smaller-right}
+use Rattle.nfa.proofs.Accepted.{within, fit}
+use Rattle.list.proofs.Slots.{smaller-right}
 use Rattle.cells.specs.Columns.{column}
 use Rattle.whole.specs.Whole.{stateCount, cellCount, cellsOf}
 use Rattle.whole.specs.Whole as whole
@@ -32,10 +33,10 @@ use Rattle.build.specs.Phases.{slotsOf}
 use Rattle.wipe.specs.Wiped.{blank, blankRows}
 use Rattle.build.specs.Promise.{left, outputRows, Promise}
 use Rattle.build.specs.Claims.{AnswerClaims, Same, BuildClaims}
-use Rattle.build.specs.declared.Counts.{Counts}
+use Rattle.table.specs.declared.Counts.{Counts}
 use Rattle.build.specs.declared.Built.{Built}
 use Rattle.build.specs.declared.Built.the-variants.{Made, BadKind, BadEnds, TooMany, Empty, TooLong, FewStates, FewCells, FewOutputs}
-use Rattle.build.proofs.Counting.{under}
+use Rattle.build.proofs.Counting.{lying}
 use Rattle.build.proofs.Outcomes.{outcome-made, outcome-caused}
 use Rattle.build.proofs.Phasing.{six}
 
@@ -294,13 +295,13 @@ module _ (kind : ℕ) (bytes ends values : List ℕ) (trie₀ owns₀ notes₀ s
     unfolding lent results
     enough =
         let F = cause .1 in
-        let U = under (cellCount accepted) (length spots₀) (length base₀) (length link₀) (length output₀) (length check₀) (length depth₀) (F .cells) in
+        let U = lying (cellCount accepted) (length spots₀) (length base₀) (length link₀) (length output₀) (length check₀) (length depth₀) (F .cells) in
         record {
-          base-room = U .in-base;
-          link-room = U .in-link;
-          output-room = U .in-output;
-          check-room = U .in-check;
-          depth-room = U .in-depth;
+          base-room = U .columns .in-base;
+          link-room = U .columns .in-link;
+          output-room = U .columns .in-output;
+          check-room = U .columns .in-check;
+          depth-room = U .columns .in-depth;
           outs-room = omega (arith, F .outputs, smaller-right (length owns₀) (length outs₀));
         }
 

@@ -7,37 +7,21 @@ use native.Mathlib.Omega.{arith}
 use lib.Dec.{ltb}
 use Rattle.paper.proofs.Tests.{test, lt-ltb, ltb-lt, ltb-le, le-ltb}
 use Rattle.list.specs.Limits.{block, mostCells}
-use Rattle.nfa.specs.Grown.{smaller}
-use Rattle.nfa.proofs.Accepted.{smaller-left, smaller-right}
+use Rattle.list.proofs.Slots.{smaller-left, smaller-right}
+use Rattle.table.specs.Slots.{columnSlots}
+use Rattle.table.proofs.Columns.{Under, under}
 use Rattle.build.specs.Outcome.{cellSlots, blocksIn}
 
--- the shortest counts
-pub record Under (n spots base link output check depth : ℕ) : Type 0 where
+-- a number of cells lies within the chart and within the columns
+pub record Lying (n spots base link output check depth : ℕ) : Type 0 where
   pub in-spots : n ≤ spots
-  pub in-base : n ≤ base
-  pub in-link : n ≤ link
-  pub in-output : n ≤ output
-  pub in-check : n ≤ check
-  pub in-depth : n ≤ depth
+  pub columns : Under n base link output check depth
 
-pub under : (n spots base link output check depth : ℕ) → n ≤ cellSlots spots base link output check depth → Under n spots base link output check depth
-under n spots base link output check depth h =
-    let e = smaller check depth in
-    let d = smaller output e in
-    let c = smaller link d in
-    let b = smaller base c in
-    let h1 : n ≤ b = omega (arith, smaller-right spots b) in
-    let h2 : n ≤ c = omega (arith, smaller-right base c) in
-    let h3 : n ≤ d = omega (arith, smaller-right link d) in
-    let h4 : n ≤ e = omega (arith, smaller-right output e) in
-    record {
-      in-spots = omega (arith, smaller-left spots b);
-      in-base = omega (arith, smaller-left base c);
-      in-link = omega (arith, smaller-left link d);
-      in-output = omega (arith, smaller-left output e);
-      in-check = omega (arith, smaller-left check depth);
-      in-depth = omega (arith, smaller-right check depth);
-    }
+-- the shortest counts
+pub lying : (n spots base link output check depth : ℕ) → n ≤ cellSlots spots base link output check depth → Lying n spots base link output check depth
+lying n spots base link output check depth h =
+    let b = columnSlots base link output check depth in
+    record { in-spots = omega (arith, smaller-left spots b); columns = under n base link output check depth (omega (arith, smaller-right spots b)) }
 
 -- the blocks that the slots hold, within the limit
 pub blocks-few : (slots : ℕ) → slots < mostCells → slots / block ≡ blocksIn slots

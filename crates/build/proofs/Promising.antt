@@ -25,7 +25,7 @@ use Rattle.build.specs.Phases.{Prepared, AllDone, Caused, slotsOf, Phase
 use Rattle.build.specs.Promise.{Promise}
 use Rattle.build.specs.declared.phases.Progress.{Progress}
 use Rattle.build.specs.declared.phases.Progress.the-variants.{Done, Refused}
-use Rattle.build.specs.declared.Counts.{Counts}
+use Rattle.table.specs.declared.Counts.{Counts}
 use Rattle.build.specs.declared.Built.{Built}
 use Rattle.build.specs.declared.Built.the-variants.{Made}
 use Rattle.build.proofs.Outcomes.{outcome-listed, outcome-made, outcome-caused}

@@ -16,7 +16,7 @@ use Rattle.whole.specs.Whole.{stateCount, cellCount}
 use Rattle.whole.specs.Refusing.{Lent, allRefusals, Fits}
 use Rattle.build.specs.Outcome.{refused, made, refusal, countsOf, outcomeOf}
 use Rattle.build.specs.Promise.{Promise}
-use Rattle.build.specs.declared.Counts.{Counts}
+use Rattle.table.specs.declared.Counts.{Counts}
 use Rattle.build.specs.declared.Built.{Built}
 use Rattle.build.specs.declared.Built.the-variants.{Made}
 

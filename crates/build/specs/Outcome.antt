@@ -8,12 +8,13 @@ use lib.Dec.{ltb}
 use lib.ListN.{length}
 use Rattle.paper.specs.Lists.{pick}
 use Rattle.paper.specs.Patterns.{Entry}
-use Rattle.list.specs.Limits.{block, mostCells}
+use Rattle.list.specs.Limits.{block, mostCells, smaller}
 use Rattle.list.specs.Refusals.{Told, lowest}
-use Rattle.nfa.specs.Grown.{acceptedOf, smaller}
+use Rattle.nfa.specs.Grown.{acceptedOf}
 use Rattle.whole.specs.Whole.{stateCount, cellCount}
 use Rattle.whole.specs.Refusing.{Lent, allRefusals}
-use Rattle.build.specs.declared.Counts.{Counts}
+use Rattle.table.specs.Slots.{columnSlots}
+use Rattle.table.specs.declared.Counts.{Counts}
 use Rattle.build.specs.declared.Built.{Built}
 use Rattle.build.specs.declared.Built.the-variants.{Made, BadKind, BadEnds, TooMany, Empty, TooLong, FewStates, FewCells, FewOutputs}
 
@@ -21,7 +22,7 @@ use Rattle.build.specs.declared.Built.the-variants.{Made, BadKind, BadEn
 
 -- where the slots lie in several slices, the shortest counts
 abbrev pub cellSlots : ℕ → ℕ → ℕ → ℕ → ℕ → ℕ → ℕ
-cellSlots spots base link output check depth = smaller spots (smaller base (smaller link (smaller output (smaller check depth))))
+cellSlots spots base link output check depth = smaller spots (columnSlots base link output check depth)
 
 -- the blocks that so many slots hold, within the limit
 abbrev pub blocksIn : ℕ → ℕ

@@ -7,7 +7,7 @@ use Prim.Native.Nat.{ℕ, _*_, _-_, _≤_, _<_}
 use lib.ListN.{length, replicate}
 use Rattle.zeros.specs.Rows.{zeros, field}
 use Rattle.paper.specs.Patterns.{Entry, Kind}
-use Rattle.list.specs.Limits.{alphabet, block, mostCells}
+use Rattle.list.specs.Limits.{alphabet, block, mostCells, smaller}
 use Rattle.list.specs.Kinds.{kindOf}
 use Rattle.list.specs.Claims.{Sound}
 use Rattle.plan.specs.Names.{names}
@@ -18,7 +18,7 @@ use Rattle.placement.specs.Laid.{Laid, laidOut, LaidOut}
 use Rattle.placement.specs.declared.Blocks.{Blocks}
 use Rattle.placement.specs.declared.Blocks.the-variants.{Now, Full}
 use Rattle.cells.specs.Columns.{Blanks, Written}
-use Rattle.nfa.specs.Grown.{acceptedOf, smaller}
+use Rattle.nfa.specs.Grown.{acceptedOf}
 use Rattle.whole.specs.Whole.{stateCount, layoutOf, cellCount, cellsOf, outputsOf}
 use Rattle.whole.specs.Refusing.{Lent, Fits}
 use Rattle.build.specs.Outcome.{cellSlots, TableRefusal}

@@ -1,6 +1,7 @@
 // The tables of a pattern list: `build`, with refusals 1 to 8. All tables are lent and may hold anything. Working tables are zero again
 // after a good build; nothing is changed by 1 to 5, and all is zero after 6 to 8.
 use list::Listing;
+use table::Counts;
 use table::Depth;
 use wipe::wipe_results;
 use wipe::wipe_working;
@@ -14,14 +15,6 @@ mod slots;
 
 use phases::Progress;
 use phases::phases;
-
-// What a good build answers. The states count root and not dead.
-pub struct Counts {
-    pub kind: u32,
-    pub accepted: u32,
-    pub states: u32,
-    pub cells: u32,
-}
 
 pub enum Built {
     Made(Counts),

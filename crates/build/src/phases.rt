@@ -1,7 +1,7 @@
 // The phases of a build on blank tables, in the order of their refusals: 6, 7, 8.
 use crate::slots::cell_slots;
 use crate::slots::most_blocks;
-use nfa::least;
+use list::limits::least;
 use placement::Blocks;
 use table::Depth;
 use trie::Grew;

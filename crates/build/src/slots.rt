@@ -1,6 +1,7 @@
 // The slots that are lent: where they lie in several slices, the shortest counts.
-use nfa::least;
+use list::limits::least;
 use table::Depth;
+use table::slots::column_slots;
 ghost use mathlib.Core.Path.{_≡_};
 ghost use lib.ListN.{length};
 ghost use Rattle.build.specs.Outcome.{cellSlots, blocksIn};
@@ -16,16 +17,7 @@ pub(crate) fn cell_slots(
     ensures { λ r. ⌜ r ≡ cellSlots (length (now (spots .entry))) (length (now (base .entry))) (length (now (link .entry)))
         (length (now (output .entry))) (length (now (check .entry))) (length (now (depth .entry))) ⌝ }
 {
-    least(
-        spots.len(),
-        least(
-            base.len(),
-            least(
-                link.len(),
-                least(output.len(), least(check.len(), depth.len())),
-            ),
-        ),
-    )
+    least(spots.len(), column_slots(base, link, output, check, depth))
 }
 
 // The blocks that the slots hold, but no more than the limit.

@@ -10,7 +10,7 @@ use crate::tables::sixes_are;
 use crate::tables::triples_are;
 use crate::tables::words_are;
 use build::Built;
-use build::Counts;
+use table::Counts;
 use table::Depth;
 ghost use Prim.Native.Nat.{_≤_};
 

@@ -1,3 +1,4 @@
+pub mod Slots
 pub mod First
 pub mod Refusals
 pub mod Patterns

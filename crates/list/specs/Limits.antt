@@ -1,5 +1,7 @@
 -- The numbers of document 01. Every other file has them from here; src/limits.rt has the same for the code.
 use Prim.Native.Nat.{ℕ}
+use lib.Dec.{ltb}
+use Rattle.paper.specs.Lists.{pick}
 
 -- the highest kind: 0 is Standard, 1 LeftmostLongest, 2 LeftmostFirst
 abbrev pub lastKind : ℕ
@@ -32,3 +34,7 @@ block = 256
 -- the blocks, counted from the last, in which a place is looked for
 abbrev pub window : ℕ
 window = 16
+
+-- the smaller of two: where slots lie in several slices, the shortest counts
+abbrev pub smaller : ℕ → ℕ → ℕ
+smaller a b = pick (ltb a b) a b

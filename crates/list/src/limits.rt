@@ -1,4 +1,6 @@
 // The limits of document 01 for the code: specs/Limits.antt has the same numbers for the promises.
+ghost use mathlib.Core.Path.{_≡_};
+ghost use Rattle.list.specs.Limits.{smaller};
 
 pub const LAST_KIND: u32 = 2;
 
@@ -15,3 +17,10 @@ pub const MOST_TEXT: usize = 65536;
 pub const BLOCK: usize = 256;
 
 pub const WINDOW: usize = 16;
+
+// Where slots lie in several slices, the shortest counts.
+pub fn least(a: usize, b: usize) -> usize
+    ensures { λ r. ⌜ r ≡ smaller a b ⌝ }
+{
+    if a < b { a } else { b }
+}

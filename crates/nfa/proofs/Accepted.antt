@@ -16,6 +16,7 @@ use Rattle.list.specs.Kinds.{kindOf}
 use Rattle.list.specs.Listed.{patternsOf}
 use Rattle.list.specs.Claims.{Bytes, Sound}
 use Rattle.list.proofs.Patterns.{patterns-length, pattern-bytes, member-at}
+use Rattle.list.proofs.Slots.{smaller-first, smaller-second}
 use Rattle.list.proofs.Sound.{sound-filled}
 use Rattle.plan.specs.Breadth.{Within}
 use Rattle.trie.specs.Made.{Parted, grownBy, dropsOf, acceptOn}
@@ -27,7 +28,7 @@ use Rattle.trie.specs.Trie.{Slots, slotsOf}
 use Rattle.trie.specs.Owned.{Owns}
 use Rattle.trie.specs.Made.{Made}
 use Rattle.links.specs.Queue.{Ready}
-use Rattle.nfa.specs.Grown.{acceptedOf, smaller, counted}
+use Rattle.nfa.specs.Grown.{acceptedOf, counted}
 
 -- ---- kinds by their numbers
 
@@ -49,23 +50,6 @@ leftmost-yes (suc (suc n)) h = refl
 pub leftmost-no : (kind : ℕ) → kind < 1 → false ≡ isLeftmost (kindOf kind)
 leftmost-no zero h = refl
 leftmost-no (suc n) h = absurd (omega arith)
-
--- ---- the smaller of two
-
-pub smaller-left : (a b : ℕ) → smaller a b ≤ a
-smaller-left a b = test (ltb a b) (λ h. rw h (omega arith)) (λ h. rw h (ltb-at h))
-  where
-    ltb-at : ltb a b ≡ false → b ≤ a
-    ltb-at h = ltb-le a b h
-
-pub smaller-right : (a b : ℕ) → smaller a b ≤ b
-smaller-right a b = test (ltb a b) (λ h. let l = ltb-lt a b h in rw h (omega arith)) (λ h. rw h (omega arith))
-
-pub smaller-first : (a b : ℕ) → a < b → a ≡ smaller a b
-smaller-first a b h = rw (lt-ltb a b h)
-
-pub smaller-second : (a b : ℕ) → b ≤ a → b ≡ smaller a b
-smaller-second a b h = rw (le-ltb a b h)
 
 -- ---- the accepted patterns
 

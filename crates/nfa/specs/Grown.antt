@@ -2,11 +2,9 @@
 use mathlib.Core.Path.{_≡_}
 use mathlib.Core.List.{List}
 use Prim.Native.Nat.{ℕ, _≤_, _<_}
-use lib.Dec.{ltb}
 use lib.ListN.{length}
-use Rattle.paper.specs.Lists.{pick}
 use Rattle.paper.specs.Patterns.{Entry, accepted}
-use Rattle.list.specs.Limits.{alphabet}
+use Rattle.list.specs.Limits.{alphabet, smaller}
 use Rattle.list.specs.Kinds.{kindOf}
 use Rattle.list.specs.Listed.{patternsOf}
 use Rattle.plan.specs.Names.{names}
@@ -22,10 +20,6 @@ use Rattle.links.specs.Queue.{Ready}
 -- the accepted patterns of a lent list
 abbrev pub acceptedOf : ℕ → List ℕ → List ℕ → List Entry
 acceptedOf kind bytes ends = accepted (kindOf kind) (patternsOf bytes ends)
-
--- the smaller of two
-abbrev pub smaller : ℕ → ℕ → ℕ
-smaller a b = pick (ltb a b) a b
 
 -- a number of slots as the trie counts them; no list within the limits has as many states as the bound
 abbrev pub counted : ℕ → ℕ

@@ -1,13 +1,15 @@
 // Inner: the trie of a list with its links (the crate's `NfaBuilder`), the automaton before its outputs are stored and its states placed.
+use list::limits::least;
 use trie::Grew;
 ghost use mathlib.Core.Path.{_≡_};
 ghost use Prim.Native.Nat.{_≤_, _<_};
 ghost use lib.ListN.{length};
+ghost use Rattle.list.specs.Limits.{smaller};
 ghost use Rattle.list.specs.Kinds.{kindOf};
 ghost use Rattle.list.specs.Claims.{Sound};
 ghost use Rattle.trie.specs.Made.{dropsOf};
 ghost use Rattle.links.specs.Linked.{isLeftmost};
-ghost use Rattle.nfa.specs.Grown.{smaller, counted, GrownOk};
+ghost use Rattle.nfa.specs.Grown.{counted, GrownOk};
 
 // Whether a kind drops patterns that can't be found.
 fn drops(kind: u32) -> bool
@@ -21,12 +23,6 @@ fn leftmost(kind: u32) -> bool
     ensures { λ r. ⌜ r ≡ isLeftmost (kindOf kind) ⌝ }
 {
     if kind < 1 { false } else { true }
-}
-
-pub fn least(a: usize, b: usize) -> usize
-    ensures { λ r. ⌜ r ≡ smaller a b ⌝ }
-{
-    if a < b { a } else { b }
 }
 
 // A number of slots as the trie counts them: no list has so many states that the bound matters.

@@ -1,3 +1,4 @@
+pub mod Columns
 pub mod Inside
 pub mod Claims
 pub mod Agrees

@@ -1,3 +1,4 @@
+pub mod Slots
 pub mod Readers
 pub mod Claims
 pub mod Agrees

@@ -4,6 +4,8 @@ ghost use mathlib.Core.Path.{_≡_};
 ghost use lib.ListN.{length};
 ghost use Rattle.table.specs.Readers.{there, canEnd, probeOf, linkOf, placeOf, outputOf};
 
+pub mod slots;
+
 // The fields of an output.
 const VALUE: usize = 0;
 
@@ -16,6 +18,15 @@ pub struct CellId(pub u32);
 
 // A state's depth, stored in its cell. Its width is named here alone: no definition and no proof knows it.
 pub type Depth = u8;
+
+// What a good build says of its tables, and a search is told: the kind, and how many patterns were accepted, states made and cells used. The
+// states count root and not dead.
+pub struct Counts {
+    pub kind: u32,
+    pub accepted: u32,
+    pub states: u32,
+    pub cells: u32,
+}
 
 // What a probe finds.
 pub enum Found {

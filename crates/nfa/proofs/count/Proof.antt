@@ -1,5 +1,5 @@
 -- `count` by its two cases.
-use Rattle.nfa.proofs.Accepted.{smaller-first, smaller-second}
+use Rattle.list.proofs.Slots.{smaller-first, smaller-second}
 use borrow.Author.Needs.{needs}
 use Rattle.nfa.proofs.count.Statement.{statement}
 use Rattle.nfa.proofs.count.Tie as tie

@@ -4,14 +4,16 @@ use mathlib.Core.List.{List}
 use Prim.Native.Nat.{ℕ, _≤_}
 use native.Mathlib.Omega.{arith}
 use lib.ListN.{length}
+use Rattle.list.specs.Limits.{smaller}
 use Rattle.list.specs.Kinds.{kindOf}
 use Rattle.list.specs.Claims.{Bytes}
+use Rattle.list.proofs.Slots.{smaller-left, smaller-right}
 use Rattle.trie.specs.Trie.{slotsOf}
 use Rattle.trie.specs.Owned.{ownsOf}
 use Rattle.trie.specs.Made.{Made}
 use Rattle.trie.proofs.Accepting.{grew-on, grew-full}
-use Rattle.nfa.specs.Grown.{acceptedOf, smaller, counted}
-use Rattle.nfa.proofs.Accepted.{smaller-left, smaller-right, parted, made, made-room, full, ready, ready-room}
+use Rattle.nfa.specs.Grown.{acceptedOf, counted}
+use Rattle.nfa.proofs.Accepted.{parted, made, made-room, full, ready, ready-room}
 use borrow.Author.Needs.{needs}
 use Rattle.nfa.proofs.grow.Statement.{statement}
 use Rattle.nfa.proofs.grow.Tie as tie
@@ -20,7 +22,7 @@ use Rattle.nfa.proofs.grow.Lts as lts
 use Rattle.links.proofs.link_all.Reads as link-all-reads
 use Rattle.nfa.proofs.count.Reads as count-reads
 use Rattle.nfa.proofs.drops.Reads as drops-reads
-use Rattle.nfa.proofs.least.Reads as least-reads
+use Rattle.list.proofs.limits.least.Reads as least-reads
 use Rattle.nfa.proofs.leftmost.Reads as leftmost-reads
 use Rattle.trie.proofs.add_all.Reads as add-all-reads
 

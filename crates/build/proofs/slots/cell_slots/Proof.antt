@@ -1,52 +1,26 @@
--- `cell_slots` takes the shortest, one slice after the other.
-use mathlib.Core.Path.{_≡_, ap, _∙_}
-use Prim.Native.Nat.{ℕ}
+-- `cell_slots` takes the shorter of the chart and the columns.
+use mathlib.Core.Path.{ap, _∙_}
 use lib.ListN.{length}
-use Rattle.nfa.specs.Grown.{smaller}
+use Rattle.list.specs.Limits.{smaller}
 use borrow.Author.Needs.{needs}
 use Rattle.build.proofs.slots.cell_slots.Statement.{statement}
 use Rattle.build.proofs.slots.cell_slots.Tie as tie
 use Rattle.build.proofs.slots.cell_slots.Reads as reads
 use Rattle.build.proofs.slots.cell_slots.Lts as lts
-use Rattle.nfa.proofs.least.Reads as least-reads
+use Rattle.list.proofs.limits.least.Reads as least-reads
+use Rattle.table.proofs.slots.column_slots.Reads as column-slots-reads
 
--- src/slots.rt:25:37
+-- src/slots.rt:22:9
+column-slots-requires : tie.Need-column-slots-requires
+column-slots-requires c κs = search needs
+
+-- src/slots.rt:20:5
 least-requires : tie.Need-least-requires
 least-requires c κs = search needs
 
--- src/slots.rt:25:17
-least-requires-2 : tie.Need-least-requires-2
-least-requires-2 c κs = search needs
-
--- src/slots.rt:23:13
-least-requires-3 : tie.Need-least-requires-3
-least-requires-3 c κs = search needs
-
--- src/slots.rt:21:9
-least-requires-4 : tie.Need-least-requires-4
-least-requires-4 c κs = search needs
-
--- src/slots.rt:19:5
-least-requires-5 : tie.Need-least-requires-5
-least-requires-5 c κs = search needs
-
--- src/slots.rt:8:1
+-- src/slots.rt:9:1
 returns : tie.Need-returns
-returns c =
-    let a = c .before .before .before .before .before .before .before .before .before .before .args in
-    c .least5 .ensures
-    ∙ ap (smaller (length (a .spots .now)))
-    (c .before .least4 .ensures
-    ∙ ap (smaller (length (a .base .now)))
-    (c .before .before .least3 .ensures ∙ ap (smaller (length (a .link .now))) (c .before .before .before .least2 .ensures ∙ ap (smaller (length (a .output .now))) (c .before .before .before .before .least .ensures))))
+returns c = c .least .ensures ∙ ap (smaller _) (c .before .column-slots .ensures)
 
 pub cell-slots-spec : {M : Type 1} → statement M
-cell-slots-spec =
-    tie.close
-    (tie.spec
-    least-requires
-    least-requires-2
-    least-requires-3
-    least-requires-4
-    least-requires-5
-    returns)
+cell-slots-spec = tie.close (tie.spec column-slots-requires least-requires returns)

@@ -1,9 +1,9 @@
 -- `least` by its two cases.
-use Rattle.nfa.proofs.Accepted.{smaller-first, smaller-second}
-use Rattle.nfa.proofs.least.Statement.{statement}
-use Rattle.nfa.proofs.least.Tie as tie
-use Rattle.nfa.proofs.least.Reads as reads
-use Rattle.nfa.proofs.least.Lts as lts
+use Rattle.list.proofs.Slots.{smaller-first, smaller-second}
+use Rattle.list.proofs.limits.least.Statement.{statement}
+use Rattle.list.proofs.limits.least.Tie as tie
+use Rattle.list.proofs.limits.least.Reads as reads
+use Rattle.list.proofs.limits.least.Lts as lts
 
 -- src/lib.rt:48:1
 returns : tie.Need-returns

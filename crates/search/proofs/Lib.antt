@@ -1,0 +1,11 @@
+pub mod Admitting
+pub mod Walking
+pub mod Advancing
+pub mod Loops
+pub mod Calls
+pub mod Hunting
+pub mod Stepping
+pub mod Meeting
+pub mod Entering
+pub mod Answering
+pub mod Claims
