@@ -9,3 +9,4 @@ pub mod Meeting
 pub mod Entering
 pub mod Answering
 pub mod Claims
+pub mod Named

@@ -1,0 +1,12 @@
+pub mod Steps
+pub mod Lengths
+pub mod Repeating
+pub mod Unrefused
+pub mod StandardWalk
+pub mod Overlapping
+pub mod Plain
+pub mod Standard
+pub mod LeftmostPaper
+pub mod LeftmostWalk
+pub mod LeftmostCalls
+pub mod Claims

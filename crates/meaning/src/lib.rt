@@ -1,0 +1,1 @@
+// Inner: no code. What the searches give over tables that agree with a list of patterns.
