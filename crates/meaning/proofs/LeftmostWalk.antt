@@ -114,7 +114,7 @@ module _ (T : Tables) (choice : Choice) (es : List Entry) (values : List ℕ) (A
   module _ (size : ℕ) (back : Outcome) where
     -- the answer that is made of the match kept last
     abbrev kept : Match → Search → List ℕ → Outcome
-    kept m v t = onKept (keepOf T m v t) (λ k. gives k (afterLeftmost (k .end))) back
+    kept m v t = onKept (keepOf T m v t) (λ k stop. gives k (afterLeftmost (k .end))) back
 
     -- it is what the paper's call gives
     abbrev Keeps : List ℕ → Type 0

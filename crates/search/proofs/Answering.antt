@@ -102,7 +102,7 @@ module _ (T : Tables) (kind : ℕ) (text : List ℕ) (v : Search) (short : lengt
   output-says leftmost n row at e = go (held row at) refl
     where
       go : (r : Kept) → held row at ≡ r → Says leftmost T kind text v (atOutput leftmost T text v row at)
-      go (kept.Given m) k = rw k refl
+      go (kept.Given m stop) k = rw k refl
       go kept.Damage k = rw k (refl, eleven-caused n short (with-match row at refl e (held-meets row at e .0 k)))
 
   end-says : (w : Which) → (WrongKind w kind → ⊥) → (at : Search) → at .place ≡ length text → at .output ≡ 0 → Says w T kind text v (atEnd w at)

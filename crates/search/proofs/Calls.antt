@@ -183,8 +183,8 @@ module _ (T : Tables) (kind : ℕ) (text : List ℕ) (v : Search) (r : Admission
 
     -- with the answer p of the walk with the match in hand
     module _ (row : Row) (at : Search) (d : q ≡ sought.Given row at) (p : Kept) (h : p ≡ keepOf T (matchOf row (at .place)) at (rest text at)) where
-      pub leftmost-gives : (m : Match) → p ≡ kept.Given m → gives m (afterLeftmost (m .end)) ≡ nextOf leftmost T kind text v
-      leftmost-gives m k = (rw (sym s ∙ d, sym h ∙ k) at (walked leftmost T kind text v r e g))
+      pub leftmost-gives : (m : Match) (stop : Search) → p ≡ kept.Given m stop → gives m (afterLeftmost (m .end)) ≡ nextOf leftmost T kind text v
+      leftmost-gives m stop k = (rw (sym s ∙ d, sym h ∙ k) at (walked leftmost T kind text v r e g))
 
       pub keep-damaged : p ≡ kept.Damage → refuses 11 v ≡ nextOf leftmost T kind text v
       keep-damaged k = (rw (sym s ∙ d, sym h ∙ k) at (walked leftmost T kind text v r e g))

@@ -118,7 +118,7 @@ module _ (falling : Bool) (T : Tables) where
 -- ---- with a match in hand
 
 module _ (T : Tables) where
-  keep-end : (m : Match) (v : Search) → keepOf T m v [] ≡ kept.Given m
+  keep-end : (m : Match) (v : Search) → keepOf T m v [] ≡ kept.Given m v
   unfolding keepOf
   keep-end m v = refl
 
@@ -127,7 +127,7 @@ module _ (T : Tables) where
   keep-stuck m v c bytes k = rw k
 
   module _ (m : Match) (v w : Search) (c : ℕ) (bytes : List ℕ) (k : stepOf true T v c ≡ moved.On w) where
-    keep-root : w .state .0 ≡ root → keepOf T m v (c ∷ bytes) ≡ kept.Given m
+    keep-root : w .state .0 ≡ root → keepOf T m v (c ∷ bytes) ≡ kept.Given m w
     unfolding keepOf
     keep-root z = rw (k, eq-eqb (w .state .0) root z)
 
@@ -149,14 +149,14 @@ module _ (T : Tables) where
     pub bounded : Bounded text at
 
   module _ {text : List ℕ} {first : Match} {from : Search} {m : Match} {at : Search} (K : Keeping text first from m at) where
-    pub kept-end : length text ≤ at .place → kept.Given m ≡ keepOf T first from (rest text from)
+    pub kept-end : length text ≤ at .place → kept.Given m at ≡ keepOf T first from (rest text from)
     kept-end h = sym (ap (keepOf T m at) (rest-none text at h) ∙ keep-end m at) ∙ K .same
 
     pub kept-stuck : at .place < length text → stepOf true T at (getD text (at .place) 0) ≡ moved.Damage → kept.Damage ≡ keepOf T first from (rest text from)
     kept-stuck h k = sym (ap (keepOf T m at) (rest-next text at h) ∙ keep-stuck m at _ _ k) ∙ K .same
 
     module _ (w : Search) (h : at .place < length text) (k : stepOf true T at (getD text (at .place) 0) ≡ moved.On w) where
-      pub kept-root : w .state .0 ≡ root → kept.Given m ≡ keepOf T first from (rest text from)
+      pub kept-root : w .state .0 ≡ root → kept.Given m w ≡ keepOf T first from (rest text from)
       kept-root z = sym (ap (keepOf T m at) (rest-next text at h) ∙ keep-root m at w _ _ k z) ∙ K .same
 
       pub kept-broken : (w .state .0 ≡ root → ⊥) → shownAt T w ≡ shown.Damage → kept.Damage ≡ keepOf T first from (rest text from)

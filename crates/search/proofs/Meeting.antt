@@ -34,7 +34,7 @@ given-not e = never (cc)
 end-not : {at : Search} → sought.End at ≡ sought.Damage → ⊥
 end-not e = never (cc)
 
-kept-not : {m : Match} → kept.Given m ≡ kept.Damage → ⊥
+kept-not : {m : Match} {stop : Search} → kept.Given m stop ≡ kept.Damage → ⊥
 kept-not e = never (cc)
 
 -- with a match in hand damage is met only at a byte

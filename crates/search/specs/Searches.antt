@@ -39,12 +39,12 @@ seekOf falling T v [] = onShown (shownAt T v) (λ row. sought.Given row v) (soug
 seekOf falling T v (c ∷ bytes) =
     onShown (shownAt T v) (λ row. sought.Given row v) (onMoved (stepOf falling T v c) (λ w. seekOf falling T w bytes) sought.Damage) sought.Damage
 
--- from a first match on, the match that is kept last before a byte ends at root or the text ends: each state's first output is kept
+-- from a first match on, the match that is kept last before a byte ends at root or the text ends, and where the walk stops: each state's first output is kept
 unfoldable pub keepOf : Tables → Match → Search → List ℕ → Kept
-keepOf T m v [] = kept.Given m
+keepOf T m v [] = kept.Given m v
 keepOf T m v (c ∷ bytes) =
     onMoved (stepOf true T v c)
-    (λ w. pick (eqb (w .state .0) root) (kept.Given m)
+    (λ w. pick (eqb (w .state .0) root) (kept.Given m w)
     (onShown (shownAt T w) (λ row. keepOf T (matchOf row (w .place)) w bytes) (keepOf T m w bytes) kept.Damage))
     kept.Damage
 
@@ -56,9 +56,9 @@ onSought (sought.Given row at) f end damage = f row at
 onSought (sought.End at) f end damage = end at
 onSought sought.Damage f end damage = damage
 
--- a match, or damage
-abbrev pub onKept : {A : Type 0} → Kept → (Match → A) → A → A
-onKept (kept.Given m) f damage = f m
+-- a match and where the walk stopped, or damage
+abbrev pub onKept : {A : Type 0} → Kept → (Match → Search → A) → A → A
+onKept (kept.Given m stop) f damage = f m stop
 onKept kept.Damage f damage = damage
 
 -- the bytes of a text that a value has still to take
@@ -97,7 +97,7 @@ abbrev pub atOutput : Which → Tables → List ℕ → Search → Row → Searc
 atOutput overlapping T text v row at = gives (matchOf row (at .place)) (afterOutput row at)
 atOutput plain T text v row at = gives (matchOf row (at .place)) (afterPlain at)
 atOutput leftmost T text v row at =
-    onKept (keepOf T (matchOf row (at .place)) at (rest text at)) (λ m. gives m (afterLeftmost (m .end))) (refuses 11 v)
+    onKept (keepOf T (matchOf row (at .place)) at (rest text at)) (λ m stop. gives m (afterLeftmost (m .end))) (refuses 11 v)
 
 -- the answer at the text's end
 abbrev pub atEnd : Which → Search → Outcome

@@ -17,7 +17,8 @@ ghost use Rattle.search.specs.Bounds.{mostAt};
 ghost use Rattle.search.specs.Searches.{rest, keepOf};
 
 pub(crate) enum Kept {
-    Given(Match),
+    // The match, and where the walk stopped: at or past its end.
+    Given(Match, Search),
     Damage,
 }
 
@@ -57,7 +58,7 @@ pub(crate) fn keep(
             }
             Moved::On(next) => {
                 if next.state.0 == ROOT {
-                    return Kept::Given(kept);
+                    return Kept::Given(kept, next);
                 }
                 match table::output(outs, counts.accepted, next.output, next.place) {
                     Shown::Given(row) => {
@@ -72,5 +73,5 @@ pub(crate) fn keep(
             }
         }
     }
-    Kept::Given(kept)
+    Kept::Given(kept, at)
 }

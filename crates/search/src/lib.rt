@@ -253,7 +253,7 @@ impl Search {
                             matched(row, at.place),
                             at,
                         ) {
-                            Kept::Given(kept) => {
+                            Kept::Given(kept, _) => {
                                 Answer::Match(kept, moved(CellId(ROOT), 0, kept.end, 0))
                             }
                             Kept::Damage => Answer::Refused(Refusal::Damage, self),

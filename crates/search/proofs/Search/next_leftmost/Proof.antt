@@ -81,7 +81,7 @@ returns c = let a = c .before .before .before .before .before .before .before .b
 
 -- src/lib.rt:203:5
 returns-2 : tie.Need-returns-2
-returns-2 c = let a = c .before .before .before .before .before .before .before .before .before .before .before .before .before .before .before .before .before .before .before .before .args in ap (gives (c .before .before .kept .given .0 .0)) (c .moved2 .ensures) ∙ leftmost-gives (lent (a .base .now) (a .link .now) (a .output .now) (a .check .now) (a .depth .now) (a .outs .now) (a .counts)) (a .counts .kind) (a .text .now) (a .self) _ (c .before .before .before .before .before .before .before .before .before .before .before .enum-told .given .1) _ (c .before .before .before .before .before .before .before .before .before .before .before .before .before .admit .ensures) (c .before .before .before .before .before .before .before .before .before .seek .ensures ∙ ap (λ (x : Search). seekOf true (lent (a .base .now) (a .link .now) (a .output .now) (a .check .now) (a .depth .now) (a .outs .now) (a .counts)) x (rest (a .text .now) x)) (c .before .before .before .before .before .before .before .before .before .before .moved .ensures)) _ _ (c .before .before .before .before .before .before .before .row .given .1) _ (c .before .before .before .before .keep .ensures ∙ ap (λ (x : Match). keepOf (lent (a .base .now) (a .link .now) (a .output .now) (a .check .now) (a .depth .now) (a .outs .now) (a .counts)) x (c .before .before .before .before .before .before .before .row .given .0 .1 .0) (rest (a .text .now) (c .before .before .before .before .before .before .before .row .given .0 .1 .0))) (c .before .before .before .before .before .matched .ensures)) _ (c .before .before .kept .given .1)
+returns-2 c = let a = c .before .before .before .before .before .before .before .before .before .before .before .before .before .before .before .before .before .before .before .before .args in ap (gives (c .before .before .kept .given .0 .0)) (c .moved2 .ensures) ∙ leftmost-gives (lent (a .base .now) (a .link .now) (a .output .now) (a .check .now) (a .depth .now) (a .outs .now) (a .counts)) (a .counts .kind) (a .text .now) (a .self) _ (c .before .before .before .before .before .before .before .before .before .before .before .enum-told .given .1) _ (c .before .before .before .before .before .before .before .before .before .before .before .before .before .admit .ensures) (c .before .before .before .before .before .before .before .before .before .seek .ensures ∙ ap (λ (x : Search). seekOf true (lent (a .base .now) (a .link .now) (a .output .now) (a .check .now) (a .depth .now) (a .outs .now) (a .counts)) x (rest (a .text .now) x)) (c .before .before .before .before .before .before .before .before .before .before .moved .ensures)) _ _ (c .before .before .before .before .before .before .before .row .given .1) _ (c .before .before .before .before .keep .ensures ∙ ap (λ (x : Match). keepOf (lent (a .base .now) (a .link .now) (a .output .now) (a .check .now) (a .depth .now) (a .outs .now) (a .counts)) x (c .before .before .before .before .before .before .before .row .given .0 .1 .0) (rest (a .text .now) (c .before .before .before .before .before .before .before .row .given .0 .1 .0))) (c .before .before .before .before .before .matched .ensures)) _ _ (c .before .before .kept .given .1)
 
 -- src/lib.rt:203:5
 returns-3 : tie.Need-returns-3
