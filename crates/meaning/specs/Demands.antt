@@ -23,6 +23,10 @@ abbrev pub kindNumber : Choice → ℕ
 kindNumber longest = 1
 kindNumber first = 2
 
+-- after n bytes, which are of the text, at most 2n - 1 moves, none for n = 0
+abbrev pub Bounded : List ℕ → Outcome → Type 0
+Bounded text o = (handedBack o .place ≤ length text) × (handedBack o .moves ≤ 2 * handedBack o .place - 1)
+
 -- over tables of kind Standard that agree with a list, for a text of bytes within the limit
 pub record StandardDemands (T : Tables) (es : List Entry) (values text : List ℕ) : Type 0 where
   -- demand 2: fresh overlapping search, called again and again, gives the overlapping list and then the end: no refusal ever
@@ -36,11 +40,9 @@ pub record StandardDemands (T : Tables) (es : List Entry) (values text : List �
   -- in plain search, of the walk that begins again at root after each match
   pub plain-moves : (n : ℕ) (o : Outcome) → List·Memᴰ o (answers (nextOf search.plain T 0 text) n begun)
       → handedBack o .moves ≡ (walk (machine standard es) (puttingOut (machine standard es)) fresh (take (handedBack o .place) text)) .moves
-  -- so they are at most 2n - 1 after n bytes, none for n = 0
-  pub overlapping-bound : (n : ℕ) (o : Outcome) → List·Memᴰ o (answers (nextOf search.overlapping T 0 text) n begun)
-      → (handedBack o .place ≤ length text) × (handedBack o .moves ≤ 2 * handedBack o .place - 1)
-  pub plain-bound : (n : ℕ) (o : Outcome) → List·Memᴰ o (answers (nextOf search.plain T 0 text) n begun)
-      → (handedBack o .place ≤ length text) × (handedBack o .moves ≤ 2 * handedBack o .place - 1)
+  -- so they are at most 2n - 1 after n bytes
+  pub overlapping-bound : (n : ℕ) (o : Outcome) → List·Memᴰ o (answers (nextOf search.overlapping T 0 text) n begun) → Bounded text o
+  pub plain-bound : (n : ℕ) (o : Outcome) → List·Memᴰ o (answers (nextOf search.plain T 0 text) n begun) → Bounded text o
 
 -- over tables of a leftmost kind that agree with what it accepts of a list
 pub record LeftmostDemands (T : Tables) (c : Choice) (ps : List (List ℕ)) (values text : List ℕ) : Type 0 where
