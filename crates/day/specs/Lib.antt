@@ -1,2 +1,3 @@
 pub mod EndToEnd
 pub mod CaseTable
+pub mod OneAnswer

@@ -1,0 +1,51 @@
+-- One answer only: for each public function of the crates that users link (`table`, `build`, `search`), no second answer, and no second
+-- lot of lent tables, could meet its promise. There is no exception. The proofs stand in ../proofs; `one-answer` there has them all.
+use mathlib.Core.Path.{_≡_}
+use mathlib.Core.List.{List}
+use Prim.Native.Nat.{ℕ}
+use Rattle.table.specs.Slots.{columnSlots}
+use Rattle.table.specs.Readers.{probeOf, linkOf, placeOf, outputOf}
+use Rattle.table.specs.Agrees.{Tables}
+use Rattle.table.specs.declared.Found.{Found}
+use Rattle.table.specs.declared.Linked.{Linked}
+use Rattle.table.specs.declared.Begins.{Begins}
+use Rattle.table.specs.declared.Shown.{Shown}
+use Rattle.build.specs.Promise.{Promise}
+use Rattle.build.specs.declared.Built.{Built}
+use Rattle.search.specs.Values.{Which, begun, answer}
+use Rattle.search.specs.Searches.{nextOf}
+use Rattle.search.specs.declared.Search.{Search}
+use Rattle.search.specs.declared.Answer.{Answer}
+use Rattle.day.specs.EndToEnd.{Lot}
+
+-- two answers that are both this one
+abbrev pub Only : {A : Type 0} → A → Type 0
+Only {A} a = (r r' : A) → r ≡ a → r' ≡ a → r ≡ r'
+
+-- the promise of `build` for tables at entry and at exit
+abbrev pub Promised : ℕ → List ℕ → List ℕ → List ℕ → Lot → Lot → Built → Type 0
+Promised kind bytes ends values entry exit r =
+    Promise kind bytes ends values
+    (entry .trie) (entry .owns) (entry .notes) (entry .spots) (entry .base) (entry .link) (entry .output) (entry .check) (entry .depth) (entry .outs)
+    (exit .trie) (exit .owns) (exit .notes) (exit .spots) (exit .base) (exit .link) (exit .output) (exit .check) (exit .depth) (exit .outs)
+    r
+
+-- each public function by its name
+pub record OneAnswer : Type 0 where
+  -- the readers of the tables, and the slots of the columns
+  pub probe : (base check : List ℕ) (cells s c : ℕ) → Only (probeOf base check cells s c)
+  pub link : (links depth : List ℕ) (cells s : ℕ) → Only (linkOf links depth cells s)
+  pub place : (output : List ℕ) (cells s : ℕ) → Only (placeOf output cells s)
+  pub output : (outs : List (List ℕ)) (accepted place end : ℕ) → Only (outputOf outs accepted place end)
+  pub column-slots : (base link output check depth : ℕ) → Only (columnSlots base link output check depth)
+  -- a build: the answer, and every lent table
+  pub build : (kind : ℕ) (bytes ends values : List ℕ) (entry exit exit' : Lot) (r r' : Built)
+      → Promised kind bytes ends values entry exit r
+      → Promised kind bytes ends values entry exit' r'
+      → (r ≡ r') × (exit ≡ exit')
+  -- the value that a search begins with, and the three searches
+  pub fresh : Only begun
+  pub next : (w : Which) (T : Tables) (kind : ℕ) (text : List ℕ) (v : Search) (r r' : Answer)
+      → answer r ≡ nextOf w T kind text v
+      → answer r' ≡ nextOf w T kind text v
+      → r ≡ r'
