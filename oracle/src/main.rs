@@ -5,6 +5,7 @@ mod cases;
 mod cell_walk;
 mod compare;
 mod crate_answers;
+mod damage;
 mod dice;
 mod families;
 mod model;
@@ -12,12 +13,14 @@ mod notation;
 mod question;
 mod sample;
 mod tables;
+mod wild;
 
 use std::io::{Read, Write};
 use std::process::ExitCode;
 
 const USAGE: &str = "usage: oracle cases | oracle sample | oracle compare N | \
-    oracle exhaustive PATTERNS BYTES TEXT | oracle answer";
+    oracle exhaustive PATTERNS BYTES TEXT | oracle answer | \
+    oracle wild | oracle wild CASE | oracle wild tally";
 
 fn main() -> ExitCode {
     let words: Vec<String> = std::env::args().skip(1).collect();
@@ -28,6 +31,9 @@ fn main() -> ExitCode {
         ["compare", lists] => number(lists).and_then(compare::run),
         ["exhaustive", patterns, bytes, text] => exhaustive(patterns, bytes, text),
         ["answer"] => answer(),
+        ["wild"] => wild::run(),
+        ["wild", "tally"] => wild::run_tally(),
+        ["wild", case] => number(case).and_then(wild::run_one),
         _ => Err(USAGE.to_string()),
     };
     match told.and_then(print) {
