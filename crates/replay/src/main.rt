@@ -1,91 +1,127 @@
-// Compares what is built of the recorded lists with the recorded answers of the published crate: refusals, counts, cells
-// and outputs. Standard input is the sample; what agrees is counted, and what differs is told.
+// Compares what is built of the recorded lists, and what the searches find on it, with the recorded answers of the published crate:
+// refusals, counts, cells, outputs, matches and moves. Standard input is the sample; what agrees is counted, and what differs is told.
 mod answers;
+mod bytes;
 mod lists;
-mod reader;
+mod matches;
+mod numbers;
+mod run;
 mod tables;
 mod tally;
 
+use bytes::ROOM;
+use lists::LISTED;
 use lists::compare_list;
 use lists::read_list;
-use reader::CUT_OFF;
-use reader::FAULT;
-use reader::TOO_LARGE;
-use reader::expect_end;
-use reader::is_sound;
-use reader::number;
-use tally::AGREED;
-use tally::DIFFERING;
-use tally::judge;
+use numbers::read_numbers;
+use numbers::shortage;
+use run::BAD_FORM;
+use run::CUT_OFF;
+use run::Run;
+use run::TOO_LARGE;
+use run::fail;
+use run::number;
+use run::pass;
+use tally::differ;
 use tally::print_count;
+use tally::say;
 
-// The limits of a list are 1,024 patterns of 64 bytes, so 65,536 bytes. Lists that are a little above a limit have to
-// fit here too, since their refusal is compared.
-fn run_case(room: &mut [u8; 4096], cursor: &mut [usize; 3], tally: &mut [u32; 3], case: u32) {
-    let mut bytes = [0u8; 65600];
-    let mut ends = [0u32; 1100];
-    let mut values = [0u32; 1100];
-    let kind = number(room, cursor);
-    let count = read_list(room, cursor, &mut bytes, &mut ends, &mut values);
-    if is_sound(cursor) {
-        compare_list(
-            room,
-            cursor,
-            tally,
-            case,
-            kind,
-            &bytes,
-            &ends,
-            &values,
-            count,
-        );
+// The room of the sample: it has some 500,000 numbers.
+const NUMBERS: usize = 600000;
+
+// The list of a case, and what is recorded of it.
+fn compare_next(numbers: &[u32], run: Run) -> Run {
+    let mut bytes = [0u8; ROOM];
+    let mut ends = [0u32; LISTED];
+    let mut values = [0u32; LISTED];
+    let kind = number(numbers, run.place, 0);
+    let count = number(numbers, run.place, 1) as usize;
+    let begun = pass(run, 2);
+    let list = read_list(numbers, begun, &mut bytes, &mut ends, &mut values, count);
+    compare_list(
+        numbers,
+        list.run,
+        kind,
+        &bytes,
+        &ends,
+        &values,
+        list.end,
+        count,
+    )
+}
+
+fn run_case(numbers: &[u32], run: Run) -> Run {
+    let compared = compare_next(numbers, run);
+    if compared.fault == 0 {
+        return compared;
     }
     // A case that cannot be read is a difference like any other.
-    if !is_sound(cursor) {
-        judge(tally, case, b"cannot be read", false);
+    differ(compared, b"cannot be read")
+}
+
+// The first case that cannot be read is the last.
+fn run_cases(numbers: &[u32], from: Run) -> Run {
+    let count = number(numbers, from.place, 0);
+    let mut run = pass(from, 1);
+    let mut i = 0;
+    while i < count && run.fault == 0 {
+        i += 1;
+        run.case = i;
+        run = run_case(numbers, run);
+    }
+    run
+}
+
+// After the last case there is nothing, and the sample ends as it should.
+fn expect_end(run: Run) -> Run {
+    if run.place != run.end {
+        return fail(run, BAD_FORM);
+    }
+    if run.short != CUT_OFF {
+        return fail(run, run.short);
+    }
+    run
+}
+
+fn print_fault(fault: u32) {
+    match fault {
+        CUT_OFF => say(b"the sample is cut off\n"),
+        BAD_FORM => say(b"the sample is not in the format\n"),
+        TOO_LARGE => say(b"the sample, or a list or a text of it, is too large for this program\n"),
+        _ => {}
     }
 }
 
-// Answers how many cases were begun: the first that cannot be read is the last.
-fn run_cases(room: &mut [u8; 4096], cursor: &mut [usize; 3], tally: &mut [u32; 3]) -> u32 {
-    let count = number(room, cursor);
-    let mut case = 0;
-    while case < count && is_sound(cursor) {
-        case += 1;
-        run_case(room, cursor, tally, case);
+fn report(run: Run) {
+    print_count(run.case);
+    say(b" cases, ");
+    print_count(run.agreed);
+    say(b" answers agree\n");
+    if run.differing != 0 {
+        print_count(run.differing);
+        say(b" answers differ\n");
     }
-    case
+    print_fault(run.fault);
 }
 
-fn report(cases: u32, cursor: &[usize; 3], tally: &[u32; 3]) {
-    print_count(cases);
-    io::write_all(1, b" cases, ");
-    print_count(tally[AGREED]);
-    io::write_all(1, b" answers agree\n");
-    if tally[DIFFERING] != 0 {
-        print_count(tally[DIFFERING]);
-        io::write_all(1, b" answers differ\n");
-    }
-    if is_sound(cursor) {
-        return;
-    }
-    if cursor[FAULT] == CUT_OFF {
-        io::write_all(1, b"the sample is cut off\n");
-    } else if cursor[FAULT] == TOO_LARGE {
-        io::write_all(
-            1,
-            b"the sample has a list that is too large for the tables of this program\n",
-        );
-    } else {
-        io::write_all(1, b"the sample is not in the format\n");
-    }
+// All cases, and what came of them. The first numbers are the sample's, and what is asked for past them is the fault `short`.
+fn compare(numbers: &[u32], end: usize, short: u32) {
+    let begun = Run {
+        case: 0,
+        place: 0,
+        fault: 0,
+        end,
+        short,
+        agreed: 0,
+        differing: 0,
+        told: 0,
+    };
+    let run = run_cases(numbers, begun);
+    report(expect_end(run));
 }
 
 fn main() {
-    let mut room = [0u8; 4096];
-    let mut cursor = [0usize; 3];
-    let mut tally = [0u32; 3];
-    let cases = run_cases(&mut room, &mut cursor, &mut tally);
-    expect_end(&mut room, &mut cursor);
-    report(cases, &cursor, &tally);
+    let mut numbers = [0u32; NUMBERS];
+    let read = read_numbers(&mut numbers);
+    compare(&numbers, read.count, shortage(read.within));
 }

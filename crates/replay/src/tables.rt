@@ -1,241 +1,205 @@
 // The recorded cells and outputs of a case, each held to what stands in its place of the tables that were built.
-use crate::reader::BAD_FORM;
-use crate::reader::byte;
-use crate::reader::fail;
-use crate::reader::is_sound;
-use crate::reader::number;
-use crate::reader::wide;
-use crate::tally::judge;
-ghost use Prim.Native.Nat.{_≤_};
+use crate::lists::CELLS;
+use crate::lists::OUTPUTS;
+use crate::run::BAD_FORM;
+use crate::run::Run;
+use crate::run::fail;
+use crate::run::number;
+use crate::run::pass;
+use crate::tally::judge_next;
 
 // The sample has no depths: the crate keeps them apart, and only on demand.
 struct Cell {
     base: u32,
     link: u32,
     output: u32,
-    check: u8,
+    check: u32,
 }
 
-// Of a cell that isn't whole only the check is recorded: the rest is 0.
-fn read_cell(room: &mut [u8; 4096], cursor: &mut [usize; 3], whole: bool) -> Cell {
-    let mut base = 0;
-    let mut link = 0;
-    let mut output = 0;
-    if whole {
-        base = number(room, cursor);
-        link = number(room, cursor);
-        output = number(room, cursor);
+// How many numbers tell a whole cell. Of any other only the check is recorded, and the rest is 0.
+const WHOLE: usize = 4;
+
+fn recorded_cell(numbers: &[u32], at: usize, width: usize) -> Cell {
+    if width == WHOLE {
+        return Cell {
+            base: number(numbers, at, 0),
+            link: number(numbers, at, 1),
+            output: number(numbers, at, 2),
+            check: number(numbers, at, 3),
+        };
     }
-    let check = byte(room, cursor);
     Cell {
-        base,
-        link,
-        output,
-        check,
+        base: 0,
+        link: 0,
+        output: 0,
+        check: number(numbers, at, 0),
     }
 }
 
-fn is_word(column: &[u32], k: usize, word: u32) -> bool {
-    if k < column.len() {
-        return column[k] == word;
+fn code(byte: u8) -> u32 {
+    byte as u32
+}
+
+// A cell of the tables. Past them there is one that is never recorded, since no check is so large.
+fn built_cell(
+    base: &[u32; CELLS],
+    link: &[u32; CELLS],
+    output: &[u32; CELLS],
+    check: &[u8; CELLS],
+    k: usize,
+) -> Cell {
+    if k < CELLS {
+        return Cell {
+            base: base[k],
+            link: link[k],
+            output: output[k],
+            check: code(check[k]),
+        };
     }
-    false
-}
-
-fn is_byte(column: &[u8], k: usize, byte: u8) -> bool {
-    if k < column.len() {
-        return column[k] == byte;
-    }
-    false
-}
-
-fn is_cell(base: &[u32], link: &[u32], output: &[u32], check: &[u8], k: usize, cell: Cell) -> bool {
-    is_word(base, k, cell.base)
-        && is_word(link, k, cell.link)
-        && is_word(output, k, cell.output)
-        && is_byte(check, k, cell.check)
-}
-
-fn compare_cell(
-    room: &mut [u8; 4096],
-    cursor: &mut [usize; 3],
-    tally: &mut [u32; 3],
-    case: u32,
-    base: &[u32],
-    link: &[u32],
-    output: &[u32],
-    check: &[u8],
-    k: u32,
-    whole: bool,
-) {
-    let cell = read_cell(room, cursor, whole);
-    if is_sound(cursor) {
-        let same = is_cell(base, link, output, check, wide(k), cell);
-        judge(tally, case, b"cells differ", same);
+    Cell {
+        base: 0,
+        link: 0,
+        output: 0,
+        check: u32::MAX,
     }
 }
 
-// The cells from `at` to before `end`.
+fn are_same(one: Cell, other: Cell) -> bool {
+    (one.base == other.base)
+        & (one.link == other.link)
+        & (one.output == other.output)
+        & (one.check == other.check)
+}
+
+// The cells from `from` to before `end`, each of which so many numbers tell.
 fn compare_part(
-    room: &mut [u8; 4096],
-    cursor: &mut [usize; 3],
-    tally: &mut [u32; 3],
-    case: u32,
-    base: &[u32],
-    link: &[u32],
-    output: &[u32],
-    check: &[u8],
-    at: u32,
+    numbers: &[u32],
+    run: Run,
+    base: &[u32; CELLS],
+    link: &[u32; CELLS],
+    output: &[u32; CELLS],
+    check: &[u8; CELLS],
+    from: u32,
     end: u32,
-    whole: bool,
-) {
-    let mut k = at;
-    while k < end && is_sound(cursor) {
-        compare_cell(
-            room,
-            cursor,
-            tally,
-            case,
-            base,
-            link,
-            output,
-            check,
-            k,
-            whole,
-        );
+    width: usize,
+) -> Run {
+    let mut at = run;
+    let mut k = from;
+    while k < end && at.fault == 0 {
+        let recorded = recorded_cell(numbers, at.place, width);
+        let built = built_cell(base, link, output, check, k as usize);
+        let same = are_same(recorded, built);
+        at = judge_next(at, width, b"cells differ", same);
         k += 1;
     }
+    at
 }
 
-// How many cells a run of this sort holds.
-fn run_size(room: &mut [u8; 4096], cursor: &mut [usize; 3], sort: u32) -> u32 {
-    if sort == 1 {
-        return 1;
-    }
-    if sort != 2 {
-        fail(cursor, BAD_FORM);
-    }
-    number(room, cursor)
+// What a run of cells begins with: how many numbers say what it is, how many cells there are, and how many numbers tell each.
+struct Part {
+    head: usize,
+    size: u32,
+    width: usize,
 }
 
-// The run that begins with cell `at`. Answers where it ends.
-fn compare_run(
-    room: &mut [u8; 4096],
-    cursor: &mut [usize; 3],
-    tally: &mut [u32; 3],
-    case: u32,
-    base: &[u32],
-    link: &[u32],
-    output: &[u32],
-    check: &[u8],
-    at: u32,
-    cells: u32,
-) -> u32
-    requires { ⌜ at ≤ cells ⌝ }
-    ensures { λ r. ⌜ r ≤ cells ⌝ }
-{
-    let sort = number(room, cursor);
-    let size = run_size(room, cursor, sort);
-    if cells - at < size {
-        fail(cursor, BAD_FORM);
-        return at;
+fn next_part(numbers: &[u32], at: usize) -> Part {
+    match number(numbers, at, 0) {
+        1 => Part {
+            head: 1,
+            size: 1,
+            width: WHOLE,
+        },
+        2 => Part {
+            head: 2,
+            size: number(numbers, at, 1),
+            width: 1,
+        },
+        // There is no other sort, and no case has so many cells.
+        _ => Part {
+            head: 1,
+            size: u32::MAX,
+            width: 1,
+        },
     }
-    let end = at + size;
-    compare_part(
-        room,
-        cursor,
-        tally,
-        case,
-        base,
-        link,
-        output,
-        check,
-        at,
-        end,
-        sort == 1,
-    );
-    end
 }
 
 // Runs of cells. Together they hold as many cells as the case has.
 pub(crate) fn compare_cells(
-    room: &mut [u8; 4096],
-    cursor: &mut [usize; 3],
-    tally: &mut [u32; 3],
-    case: u32,
-    base: &[u32],
-    link: &[u32],
-    output: &[u32],
-    check: &[u8],
+    numbers: &[u32],
+    run: Run,
+    base: &[u32; CELLS],
+    link: &[u32; CELLS],
+    output: &[u32; CELLS],
+    check: &[u8; CELLS],
     cells: u32,
-) {
-    let runs = number(room, cursor);
+) -> Run {
+    let runs = number(numbers, run.place, 0);
+    let mut at = pass(run, 1);
     // No runs: the cells are left out of the sample.
     if runs == 0 {
-        return;
+        return at;
     }
-    let mut at = 0;
+    let mut from = 0;
     let mut i = 0;
-    while i < runs && is_sound(cursor) {
-        at = compare_run(
-            room,
-            cursor,
-            tally,
-            case,
+    while i < runs && at.fault == 0 {
+        let part = next_part(numbers, at.place);
+        if cells - from < part.size {
+            return fail(at, BAD_FORM);
+        }
+        let end = from + part.size;
+        let begun = pass(at, part.head);
+        at = compare_part(
+            numbers,
+            begun,
             base,
             link,
             output,
             check,
-            at,
-            cells,
+            from,
+            end,
+            part.width,
         );
+        from = end;
         i += 1;
     }
-    if at != cells {
-        fail(cursor, BAD_FORM);
+    if from != cells {
+        return fail(at, BAD_FORM);
     }
+    at
 }
 
-fn is_output(outs: &[[u32; 3]], k: usize, value: u32, length: u32, next: u32) -> bool {
-    if k < outs.len() {
+fn is_output(outs: &[[u32; 3]; OUTPUTS], k: usize, value: u32, length: u32, next: u32) -> bool {
+    if k < OUTPUTS {
         let row = outs[k];
-        return row[0] == value && row[1] == length && row[2] == next;
+        return (row[0] == value) & (row[1] == length) & (row[2] == next);
     }
     false
 }
 
-fn compare_output(
-    room: &mut [u8; 4096],
-    cursor: &mut [usize; 3],
-    tally: &mut [u32; 3],
-    case: u32,
-    outs: &[[u32; 3]],
-    k: u32,
-) {
-    let value = number(room, cursor);
-    let length = number(room, cursor);
-    let next = number(room, cursor);
-    if is_sound(cursor) {
-        let same = is_output(outs, wide(k), value, length, next);
-        judge(tally, case, b"outputs differ", same);
-    }
+fn compare_output(numbers: &[u32], run: Run, outs: &[[u32; 3]; OUTPUTS], k: u32) -> Run {
+    let at = run.place;
+    let value = number(numbers, at, 0);
+    let length = number(numbers, at, 1);
+    let next = number(numbers, at, 2);
+    let same = is_output(outs, k as usize, value, length, next);
+    judge_next(run, 3, b"outputs differ", same)
 }
 
 pub(crate) fn compare_outputs(
-    room: &mut [u8; 4096],
-    cursor: &mut [usize; 3],
-    tally: &mut [u32; 3],
-    case: u32,
-    outs: &[[u32; 3]],
+    numbers: &[u32],
+    run: Run,
+    outs: &[[u32; 3]; OUTPUTS],
     accepted: u32,
-) {
-    let count = number(room, cursor);
+) -> Run {
+    let count = number(numbers, run.place, 0);
+    let mut at = pass(run, 1);
     if count != accepted {
-        fail(cursor, BAD_FORM);
+        return fail(at, BAD_FORM);
     }
     let mut k = 0;
-    while k < count && is_sound(cursor) {
-        compare_output(room, cursor, tally, case, outs, k);
+    while k < count && at.fault == 0 {
+        at = compare_output(numbers, at, outs, k);
         k += 1;
     }
+    at
 }

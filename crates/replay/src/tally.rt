@@ -1,39 +1,48 @@
-// How many answers agree and how many differ. The first difference of a case is told when it is met.
+// How many answers agree and how many differ.
+use crate::run::Run;
+use crate::run::pass;
+use std::num::wrapping_add_u32;
 
-pub(crate) const AGREED: usize = 0;
-
-pub(crate) const DIFFERING: usize = 1;
-// The last case of which a difference was told. Cases are counted from 1.
-const TOLD: usize = 2;
+pub(crate) fn say(text: &[u8]) {
+    io::write_all(1, text);
+}
 
 pub(crate) fn print_count(n: u32) {
     io::print_decimal(1, n as u64);
 }
 
 fn tell(case: u32, what: &[u8]) {
-    io::write_all(1, b"case ");
+    say(b"case ");
     print_count(case);
-    io::write_all(1, b": ");
-    io::write_all(1, what);
-    io::write_all(1, b"\n");
+    say(b": ");
+    say(what);
+    say(b"\n");
 }
 
-fn plus_one(n: u32) -> u32 {
-    if n < u32::MAX { n + 1 } else { n }
-}
-
-fn differ(tally: &mut [u32; 3], case: u32, what: &[u8]) {
-    tally[DIFFERING] = plus_one(tally[DIFFERING]);
-    if tally[TOLD] != case {
-        tally[TOLD] = case;
-        tell(case, what);
+// The first difference of a case is told when it is met.
+pub(crate) fn differ(run: Run, what: &[u8]) -> Run {
+    let mut next = run;
+    next.differing = wrapping_add_u32(run.differing, 1);
+    if run.told != run.case {
+        next.told = run.case;
+        tell(run.case, what);
     }
+    next
 }
 
-pub(crate) fn judge(tally: &mut [u32; 3], case: u32, what: &[u8], same: bool) {
+pub(crate) fn judge(run: Run, what: &[u8], same: bool) -> Run {
+    if run.fault != 0 {
+        return run;
+    }
     if same {
-        tally[AGREED] = plus_one(tally[AGREED]);
-    } else {
-        differ(tally, case, what);
+        let mut next = run;
+        next.agreed = wrapping_add_u32(run.agreed, 1);
+        return next;
     }
+    differ(run, what)
+}
+
+// Passes the numbers of an answer, and judges it if they are there.
+pub(crate) fn judge_next(run: Run, count: usize, what: &[u8], same: bool) -> Run {
+    judge(pass(run, count), what, same)
 }

@@ -1,4 +1,4 @@
--- `run_cases` ends: it counts up to the number of cases. Nothing has to hold from turn to turn.
+-- `run_cases` ends: it counts up to a number that stays.
 use Prim.Native.Nat.{_-_}
 use native.Mathlib.Omega.{arith}
 use borrow.Author.Needs.{needs}
@@ -6,25 +6,25 @@ use Rattle.replay.proofs.run_cases.Statement.{statement}
 use Rattle.replay.proofs.run_cases.Tie as tie
 
 abbrev Inv-loop : tie.InvT-loop
-Inv-loop room₀ cursor₀ tally₀ count case₀ room cursor tally case = Unit {0}
+Inv-loop numbers count run₀ i₀ run i = Unit {0}
 
 abbrev μ-loop : tie.MeasureT-loop
-μ-loop room₀ cursor₀ tally₀ count case₀ room cursor tally case = count - case
+μ-loop numbers count run₀ i₀ run i = count - i
 
 number-requires : tie.Need-number-requires Inv-loop μ-loop
-number-requires c κs = search needs
+number-requires c κs = tt
+
+pass-requires : tie.Need-pass-requires Inv-loop μ-loop
+pass-requires c κs = tt
 
 loop-holds : tie.Need-loop-holds Inv-loop μ-loop
 loop-holds c = tt
 
-is-sound-requires : tie.Need-is-sound-requires Inv-loop μ-loop
-is-sound-requires c κs = search needs
-
-add-case : tie.Need-add-case Inv-loop μ-loop
-add-case c = omega arith
+add-i : tie.Need-add-i Inv-loop μ-loop
+add-i c = omega arith
 
 run-case-requires : tie.Need-run-case-requires Inv-loop μ-loop
-run-case-requires c κs = search needs
+run-case-requires c κs = tt
 
 loop-less : tie.Need-loop-less Inv-loop μ-loop
 loop-less c = omega arith
@@ -45,9 +45,9 @@ run-cases-spec =
     Inv-loop
     μ-loop
     number-requires
+    pass-requires
     loop-holds
-    is-sound-requires
-    add-case
+    add-i
     run-case-requires
     loop-less
     loop-again

@@ -1,4 +1,4 @@
--- `tables::compare_outputs` ends: it counts up to a number that stays. Nothing has to hold from turn to turn.
+-- `tables::compare_outputs` ends: it counts up to a number that stays.
 use Prim.Native.Nat.{_-_}
 use native.Mathlib.Omega.{arith}
 use borrow.Author.Needs.{needs}
@@ -6,25 +6,28 @@ use Rattle.replay.proofs.tables.compare_outputs.Statement.{statement}
 use Rattle.replay.proofs.tables.compare_outputs.Tie as tie
 
 abbrev Inv-loop : tie.InvT-loop
-Inv-loop room₀ cursor₀ tally₀ case outs accepted count k₀ room cursor tally k = Unit {0}
+Inv-loop numbers outs accepted count at₀ k₀ at k = Unit {0}
 
 abbrev μ-loop : tie.MeasureT-loop
-μ-loop room₀ cursor₀ tally₀ case outs accepted count k₀ room cursor tally k = count - k
+μ-loop numbers outs accepted count at₀ k₀ at k = count - k
 
 number-requires : tie.Need-number-requires Inv-loop μ-loop
-number-requires c κs = search needs
+number-requires c κs = tt
+
+pass-requires : tie.Need-pass-requires Inv-loop μ-loop
+pass-requires c κs = tt
 
 fail-requires : tie.Need-fail-requires Inv-loop μ-loop
-fail-requires c κs = search needs
+fail-requires c κs = tt
+
+returns : tie.Need-returns Inv-loop μ-loop
+returns c = tt
 
 loop-holds : tie.Need-loop-holds Inv-loop μ-loop
 loop-holds c = tt
 
-is-sound-requires : tie.Need-is-sound-requires Inv-loop μ-loop
-is-sound-requires c κs = search needs
-
 compare-output-requires : tie.Need-compare-output-requires Inv-loop μ-loop
-compare-output-requires c κs = search needs
+compare-output-requires c κs = tt
 
 add-k : tie.Need-add-k Inv-loop μ-loop
 add-k c = omega arith
@@ -35,11 +38,11 @@ loop-less c = omega arith
 loop-again : tie.Need-loop-again Inv-loop μ-loop
 loop-again c = tt
 
-returns : tie.Need-returns Inv-loop μ-loop
-returns c = tt
-
 returns-2 : tie.Need-returns-2 Inv-loop μ-loop
 returns-2 c = tt
+
+returns-3 : tie.Need-returns-3 Inv-loop μ-loop
+returns-3 c = tt
 
 pub compare-outputs-spec : {M : Type 1} → statement M
 compare-outputs-spec =
@@ -48,12 +51,13 @@ compare-outputs-spec =
     Inv-loop
     μ-loop
     number-requires
+    pass-requires
     fail-requires
+    returns
     loop-holds
-    is-sound-requires
     compare-output-requires
     add-k
     loop-less
     loop-again
-    returns
-    returns-2)
+    returns-2
+    returns-3)

@@ -1,4 +1,4 @@
--- `tables::compare_part` ends: it counts up to a number that stays. Nothing has to hold from turn to turn.
+-- `tables::compare_part` ends: it counts up to a number that stays.
 use Prim.Native.Nat.{_-_}
 use native.Mathlib.Omega.{arith}
 use borrow.Author.Needs.{needs}
@@ -6,22 +6,34 @@ use Rattle.replay.proofs.tables.compare_part.Statement.{statement}
 use Rattle.replay.proofs.tables.compare_part.Tie as tie
 
 abbrev Inv-loop : tie.InvT-loop
-Inv-loop room₀ cursor₀ tally₀ case base link output check at end whole k₀ room cursor tally k = Unit {0}
+Inv-loop numbers base link output check from end width at₀ k₀ t15 at k = Unit {0}
 
 abbrev μ-loop : tie.MeasureT-loop
-μ-loop room₀ cursor₀ tally₀ case base link output check at end whole k₀ room cursor tally k = end - k
+μ-loop numbers base link output check from end width at₀ k₀ t15 at k = end - k
 
 loop-holds : tie.Need-loop-holds Inv-loop μ-loop
 loop-holds c = tt
 
-is-sound-requires : tie.Need-is-sound-requires Inv-loop μ-loop
-is-sound-requires c κs = search needs
+recorded-cell-requires : tie.Need-recorded-cell-requires Inv-loop μ-loop
+recorded-cell-requires c κs = tt
 
-compare-cell-requires : tie.Need-compare-cell-requires Inv-loop μ-loop
-compare-cell-requires c κs = search needs
+cast-built-cell : tie.Need-cast-built-cell Inv-loop μ-loop
+cast-built-cell c = omega arith
+
+built-cell-requires : tie.Need-built-cell-requires Inv-loop μ-loop
+built-cell-requires c κs = tt
+
+are-same-requires : tie.Need-are-same-requires Inv-loop μ-loop
+are-same-requires c κs = tt
+
+slice-aggregate-judge-next : tie.Need-slice-aggregate-judge-next Inv-loop μ-loop
+slice-aggregate-judge-next c = search needs
+
+judge-next-requires : tie.Need-judge-next-requires Inv-loop μ-loop
+judge-next-requires c κs = tt
 
 add-k : tie.Need-add-k Inv-loop μ-loop
-add-k c = omega arith
+add-k c = omega (arith, c .before .before .before .before .before .before .before .before .before .before .fits)
 
 loop-less : tie.Need-loop-less Inv-loop μ-loop
 loop-less c = omega arith
@@ -42,8 +54,12 @@ compare-part-spec =
     Inv-loop
     μ-loop
     loop-holds
-    is-sound-requires
-    compare-cell-requires
+    recorded-cell-requires
+    cast-built-cell
+    built-cell-requires
+    are-same-requires
+    slice-aggregate-judge-next
+    judge-next-requires
     add-k
     loop-less
     loop-again

@@ -1,27 +1,27 @@
--- `answers::pass_texts` ends: it counts up to a number that stays. Nothing has to hold from turn to turn.
+-- `matches::compare_texts` ends: it counts up to a number that stays.
 use Prim.Native.Nat.{_-_}
 use native.Mathlib.Omega.{arith}
 use borrow.Author.Needs.{needs}
-use Rattle.replay.proofs.answers.pass_texts.Statement.{statement}
-use Rattle.replay.proofs.answers.pass_texts.Tie as tie
+use Rattle.replay.proofs.matches.compare_texts.Statement.{statement}
+use Rattle.replay.proofs.matches.compare_texts.Tie as tie
 
 abbrev Inv-loop : tie.InvT-loop
-Inv-loop room₀ cursor₀ kind count i₀ room cursor i = Unit {0}
+Inv-loop numbers kind base link output check depth outs counts count at₀ i₀ at i = Unit {0}
 
 abbrev μ-loop : tie.MeasureT-loop
-μ-loop room₀ cursor₀ kind count i₀ room cursor i = count - i
+μ-loop numbers kind base link output check depth outs counts count at₀ i₀ at i = count - i
 
 number-requires : tie.Need-number-requires Inv-loop μ-loop
-number-requires c κs = search needs
+number-requires c κs = tt
+
+pass-requires : tie.Need-pass-requires Inv-loop μ-loop
+pass-requires c κs = tt
 
 loop-holds : tie.Need-loop-holds Inv-loop μ-loop
 loop-holds c = tt
 
-is-sound-requires : tie.Need-is-sound-requires Inv-loop μ-loop
-is-sound-requires c κs = search needs
-
-pass-text-requires : tie.Need-pass-text-requires Inv-loop μ-loop
-pass-text-requires c κs = search needs
+compare-text-requires : tie.Need-compare-text-requires Inv-loop μ-loop
+compare-text-requires c κs = tt
 
 add-i : tie.Need-add-i Inv-loop μ-loop
 add-i c = omega arith
@@ -38,16 +38,16 @@ returns c = tt
 returns-2 : tie.Need-returns-2 Inv-loop μ-loop
 returns-2 c = tt
 
-pub pass-texts-spec : {M : Type 1} → statement M
-pass-texts-spec =
+pub compare-texts-spec : {M : Type 1} → statement M
+compare-texts-spec =
     tie.close
     (tie.spec
     Inv-loop
     μ-loop
     number-requires
+    pass-requires
     loop-holds
-    is-sound-requires
-    pass-text-requires
+    compare-text-requires
     add-i
     loop-less
     loop-again
