@@ -56,7 +56,7 @@ loop-less : tie.Need-loop-less Inv-loop μ-loop
 loop-less c = omega arith
 
 loop-again : tie.Need-loop-again Inv-loop μ-loop
-loop-again c = 
+loop-again c =
     let here = c .before .before .before .before .before .before .before .before .before .loop in (
       c .before .before .before .read-pattern .kept .1 .1 .0 ∙ here .inv .0,
       length-set (here .ends) (here .i) (c .narrow .result) ∙ here .inv .1,
