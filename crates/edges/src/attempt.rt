@@ -1,6 +1,6 @@
 // One build on tables of given lengths, and what is told about it: the answer, and whether every element of the lent tables is as
 // document 01 promises.
-use crate::lines::print_number;
+use crate::lines::print_field;
 use crate::lines::say;
 use crate::shown::print_tables;
 use crate::tables::bytes_are;
@@ -57,62 +57,80 @@ fn part(lent: usize, room: usize) -> usize
     if lent < room { lent } else { room }
 }
 
-// A build's answer in numbers. The index is that of refusals 4 and 5.
-struct Answer {
-    refusal: u32,
-    index: u32,
-    counts: Counts,
+// Where the lent part of each table ends.
+struct Ends {
+    trie: usize,
+    owns: usize,
+    notes: usize,
+    spots: usize,
+    base: usize,
+    link: usize,
+    output: usize,
+    check: usize,
+    depth: usize,
+    outs: usize,
 }
 
-fn refused(refusal: u32, index: u32) -> Answer {
-    let counts = Counts {
-        kind: 0,
-        accepted: 0,
-        states: 0,
-        cells: 0,
-    };
-    Answer {
-        refusal,
-        index,
-        counts,
+fn ends_of(lent: Lent) -> Ends
+    ensures { λ r. ⌜ (r .trie ≤ 1100) × (r .owns ≤ 1100) × (r .notes ≤ 1100) × (r .spots ≤ 1600)
+        × (r .base ≤ 1600) × (r .link ≤ 1600) × (r .output ≤ 1600) × (r .check ≤ 1600) × (r .depth ≤ 1600) × (r .outs ≤ 1100) ⌝ }
+{
+    Ends {
+        trie: part(lent[TRIE], STATES),
+        owns: part(lent[OWNS], OUTPUTS),
+        notes: part(lent[NOTES], STATES),
+        spots: part(lent[SPOTS], CELLS),
+        base: part(lent[BASE], CELLS),
+        link: part(lent[LINK], CELLS),
+        output: part(lent[OUTPUT], CELLS),
+        check: part(lent[CHECK], CELLS),
+        depth: part(lent[DEPTH], CELLS),
+        outs: part(lent[OUTS], OUTPUTS),
     }
 }
 
-fn in_numbers(built: Built) -> Answer {
+// The refusal by its number, or 0.
+fn refusal_of(built: Built) -> u32 {
     match built {
-        Built::Made(counts) => Answer {
-            refusal: 0,
-            index: 0,
-            counts,
-        },
-        Built::BadKind => refused(1, 0),
-        Built::BadEnds => refused(2, 0),
-        Built::TooMany => refused(3, 0),
-        Built::Empty(index) => refused(4, index),
-        Built::TooLong(index) => refused(5, index),
-        Built::FewStates => refused(6, 0),
-        Built::FewCells => refused(7, 0),
-        Built::FewOutputs => refused(8, 0),
+        Built::Made(_) => 0,
+        Built::BadKind => 1,
+        Built::BadEnds => 2,
+        Built::TooMany => 3,
+        Built::Empty(_) => 4,
+        Built::TooLong(_) => 5,
+        Built::FewStates => 6,
+        Built::FewCells => 7,
+        Built::FewOutputs => 8,
     }
 }
 
-fn print_answer(answer: Answer) {
-    if answer.refusal == 0 {
-        say(b"kind ");
-        print_number(answer.counts.kind);
-        say(b", accepted ");
-        print_number(answer.counts.accepted);
-        say(b", states ");
-        print_number(answer.counts.states);
-        say(b", cells ");
-        print_number(answer.counts.cells);
-        return;
-    }
-    say(b"refusal ");
-    print_number(answer.refusal);
-    if answer.refusal == 4 || answer.refusal == 5 {
-        say(b", index ");
-        print_number(answer.index);
+// What a build says of its tables. A refusal uses no slots of them.
+fn counts_of(built: Built) -> Counts {
+    let Built::Made(counts) = built else {
+        return Counts {
+            kind: 0,
+            accepted: 0,
+            states: 0,
+            cells: 0,
+        };
+    };
+    counts
+}
+
+fn print_counts(counts: Counts) {
+    print_field(b"kind ", counts.kind);
+    print_field(b", accepted ", counts.accepted);
+    print_field(b", states ", counts.states);
+    print_field(b", cells ", counts.cells);
+}
+
+// The answer. Refusals 4 and 5 have an index.
+fn print_answer(built: Built) {
+    match built {
+        Built::Made(counts) => print_counts(counts),
+        Built::Empty(index) => print_field(b"refusal 4, index ", index),
+        Built::TooLong(index) => print_field(b"refusal 5, index ", index),
+        _ => print_field(b"refusal ", refusal_of(built)),
     }
 }
 
@@ -125,10 +143,10 @@ fn are_working(
     lent: Lent,
     n: u32,
 ) -> bool {
-    fives_are(trie, 0, lent[TRIE], n)
-        && pairs_are(owns, 0, lent[OWNS], n)
-        && sixes_are(notes, 0, lent[NOTES], n)
-        && pairs_are(spots, 0, lent[SPOTS], n)
+    fives_are(trie, lent[TRIE], n)
+        & pairs_are(owns, lent[OWNS], n)
+        & sixes_are(notes, lent[NOTES], n)
+        & pairs_are(spots, lent[SPOTS], n)
 }
 
 // Whether every element of the lent parts of the result tables, from these slots on, is n.
@@ -145,32 +163,35 @@ fn are_results(
     n: u32,
 ) -> bool {
     words_are(base, cells, lent[BASE], n)
-        && words_are(link, cells, lent[LINK], n)
-        && words_are(output, cells, lent[OUTPUT], n)
-        && bytes_are(check, cells, lent[CHECK], n)
-        && bytes_are(depth, cells, lent[DEPTH], n)
-        && triples_are(outs, outputs, lent[OUTS], n)
+        & words_are(link, cells, lent[LINK], n)
+        & words_are(output, cells, lent[OUTPUT], n)
+        & bytes_are(check, cells, lent[CHECK], n)
+        & bytes_are(depth, cells, lent[DEPTH], n)
+        & triples_are(outs, outputs, lent[OUTS], n)
 }
 
-// Refusals 1 to 5 leave every element as it was.
-fn is_untouched(refusal: u32) -> bool {
-    1 <= refusal && refusal <= 5
+// What each element of the lent tables is afterwards: refusals 1 to 5 leave it as it was.
+fn left(refusal: u32) -> u32 {
+    match refusal {
+        1 | 2 | 3 | 4 | 5 => BEFORE,
+        _ => 0,
+    }
 }
 
 fn print_promise(refusal: u32, kept: bool) {
     if !kept {
         say(b"; the tables are NOT left as promised\n");
-    } else if refusal == 0 {
-        say(b"; working tables and unused slots zero\n");
-    } else if is_untouched(refusal) {
-        say(b"; tables as they were\n");
-    } else {
-        say(b"; tables zero\n");
+        return;
+    }
+    match refusal {
+        0 => say(b"; working tables and unused slots zero\n"),
+        1 | 2 | 3 | 4 | 5 => say(b"; tables as they were\n"),
+        _ => say(b"; tables zero\n"),
     }
 }
 
 fn tell(
-    answer: Answer,
+    built: Built,
     trie: &[[u32; 5]; STATES],
     owns: &[[u32; 2]; OUTPUTS],
     notes: &[[u32; 6]; STATES],
@@ -182,16 +203,16 @@ fn tell(
     depth: &[Depth; CELLS],
     outs: &[[u32; 3]; OUTPUTS],
     lent: Lent,
+    shown: bool,
 ) {
-    // A refusal uses no slots, so the unused ones are then all.
-    let cells = answer.counts.cells as usize;
-    let outputs = answer.counts.accepted as usize;
-    let mut n = 0;
-    if is_untouched(answer.refusal) {
-        n = BEFORE;
-    }
+    // Of a good build the unused slots are looked at. A refusal uses none, so these are then all.
+    let refusal = refusal_of(built);
+    let counts = counts_of(built);
+    let cells = counts.cells as usize;
+    let outputs = counts.accepted as usize;
+    let n = left(refusal);
     let kept = are_working(trie, owns, notes, spots, lent, n)
-        && are_results(
+        & are_results(
             base,
             link,
             output,
@@ -203,8 +224,11 @@ fn tell(
             outputs,
             n,
         );
-    print_answer(answer);
-    print_promise(answer.refusal, kept);
+    print_answer(built);
+    print_promise(refusal, kept);
+    if shown {
+        print_tables(base, link, output, check, depth, outs);
+    }
 }
 
 // One build. The tables are made here alone, so that no other function has to lend them on.
@@ -226,17 +250,18 @@ pub(crate) fn attempt(
     let mut check = [BEFORE as u8; CELLS];
     let mut depth = [BEFORE as Depth; CELLS];
     let mut outs = [[BEFORE; 3]; OUTPUTS];
-    let trie_end = part(lent[TRIE], STATES);
-    let owns_end = part(lent[OWNS], OUTPUTS);
-    let notes_end = part(lent[NOTES], STATES);
-    let spots_end = part(lent[SPOTS], CELLS);
-    let base_end = part(lent[BASE], CELLS);
-    let link_end = part(lent[LINK], CELLS);
-    let output_end = part(lent[OUTPUT], CELLS);
-    let check_end = part(lent[CHECK], CELLS);
-    let depth_end = part(lent[DEPTH], CELLS);
-    let outs_end = part(lent[OUTS], OUTPUTS);
-    let answer = in_numbers(build::build(
+    let ends_lent = ends_of(lent);
+    let trie_end = ends_lent.trie;
+    let owns_end = ends_lent.owns;
+    let notes_end = ends_lent.notes;
+    let spots_end = ends_lent.spots;
+    let base_end = ends_lent.base;
+    let link_end = ends_lent.link;
+    let output_end = ends_lent.output;
+    let check_end = ends_lent.check;
+    let depth_end = ends_lent.depth;
+    let outs_end = ends_lent.outs;
+    let built = build::build(
         kind,
         bytes,
         ends,
@@ -251,9 +276,9 @@ pub(crate) fn attempt(
         &mut check[..check_end],
         &mut depth[..depth_end],
         &mut outs[..outs_end],
-    ));
+    );
     tell(
-        answer,
+        built,
         &trie,
         &owns,
         &notes,
@@ -265,8 +290,6 @@ pub(crate) fn attempt(
         &depth,
         &outs,
         lent,
+        shown,
     );
-    if shown {
-        print_tables(&base, &link, &output, &check, &depth, &outs);
-    }
 }

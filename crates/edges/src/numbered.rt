@@ -5,7 +5,7 @@ use crate::attempt::Lent;
 use crate::attempt::NOTES;
 use crate::attempt::OUTS;
 use crate::attempt::attempt;
-use crate::lines::print_number;
+use crate::lines::print_field;
 use crate::lines::say;
 ghost use Prim.Native.Nat.{_≤_, _<_};
 ghost use lib.ListN.{length};
@@ -30,7 +30,7 @@ fn number_bytes(bytes: &mut [u8]) {
 
 // Whether a refusal is one of the two that a list is to be refused with.
 fn is_asked(first: u32, second: u32, refusal: u32) -> bool {
-    first == refusal || second == refusal
+    (first == refusal) | (second == refusal)
 }
 
 // How many bytes pattern i has. The second and the fourth are too long, the third and the fifth empty, where that is asked: the
@@ -38,12 +38,12 @@ fn is_asked(first: u32, second: u32, refusal: u32) -> bool {
 fn size_of(i: usize, first: u32, second: u32) -> u32
     ensures { λ r. ⌜ r ≤ 65 ⌝ }
 {
-    if i == 1 || i == 3 {
+    if (i == 1) | (i == 3) {
         if is_asked(first, second, 5) {
             return 65;
         }
     }
-    if i == 2 || i == 4 {
+    if (i == 2) | (i == 4) {
         if is_asked(first, second, 4) {
             return 0;
         }
@@ -155,13 +155,10 @@ fn count_for(first: u32, second: u32) -> usize {
 
 fn print_asked(first: u32, second: u32) {
     if first == second {
-        say(b"only refusal ");
-        print_number(first);
+        print_field(b"only refusal ", first);
     } else {
-        say(b"refusals ");
-        print_number(first);
-        say(b" and ");
-        print_number(second);
+        print_field(b"refusals ", first);
+        print_field(b" and ", second);
     }
     say(b" due: ");
 }

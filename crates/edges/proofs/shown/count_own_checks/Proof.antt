@@ -1,24 +1,21 @@
--- `shown::count_own_checks` ends: it goes up to a number that stays. It counts no more cells than it has passed.
-use Prim.Native.Nat.{_≤_, _-_}
+-- `shown::count_own_checks` is safe: it counts no more than it has looked at.
+use Prim.Native.Nat.{_≤_, _+_, _-_}
 use native.Mathlib.Omega.{arith}
 use borrow.Author.Needs.{needs}
 use Rattle.edges.proofs.shown.count_own_checks.Statement.{statement}
 use Rattle.edges.proofs.shown.count_own_checks.Tie as tie
 
 abbrev Inv-loop : tie.InvT-loop
-Inv-loop base link output check depth from end count₀ k₀ count k = count ≤ k
+Inv-loop base link output check depth count₀ k₀ count k = (8 ≤ k) × (count + 8 ≤ k) × (k ≤ 256)
 
 abbrev μ-loop : tie.MeasureT-loop
-μ-loop base link output check depth from end count₀ k₀ count k = end - k
+μ-loop base link output check depth count₀ k₀ count k = 256 - k
 
 loop-holds : tie.Need-loop-holds Inv-loop μ-loop
 loop-holds c = search needs
 
-has-own-check-requires : tie.Need-has-own-check-requires Inv-loop μ-loop
-has-own-check-requires c κs = search needs
-
-one-if-requires : tie.Need-one-if-requires Inv-loop μ-loop
-one-if-requires c κs = search needs
+own-check-requires : tie.Need-own-check-requires Inv-loop μ-loop
+own-check-requires c κs = omega arith
 
 add-count : tie.Need-add-count Inv-loop μ-loop
 add-count c = omega arith
@@ -42,8 +39,7 @@ count-own-checks-spec =
     Inv-loop
     μ-loop
     loop-holds
-    has-own-check-requires
-    one-if-requires
+    own-check-requires
     add-count
     add-k
     loop-less
