@@ -1,8 +1,9 @@
--- One answer only: for each public function of the crates that users link (`table`, `build`, `search`), no second answer, and no second
+-- One answer only: for each public function of the crates that users link (`table`, `build`, `search`, `sheet`, `exports`), no second answer, and no second
 -- lot of lent tables, could meet its promise. There is no exception. The proofs stand in ../proofs; `one-answer` there has them all.
 use mathlib.Core.Path.{_≡_}
 use mathlib.Core.List.{List}
 use Prim.Native.Nat.{ℕ}
+use lib.ListN.{length}
 use Rattle.table.specs.Slots.{columnSlots}
 use Rattle.table.specs.Readers.{probeOf, linkOf, placeOf, outputOf}
 use Rattle.table.specs.Agrees.{Tables}
@@ -16,6 +17,9 @@ use Rattle.search.specs.Values.{Which, begun, answer}
 use Rattle.search.specs.Searches.{nextOf}
 use Rattle.search.specs.declared.Search.{Search}
 use Rattle.search.specs.declared.Answer.{Answer}
+use Rattle.sheet.specs.declared.Filled.{Filled}
+use Rattle.sheet.specs.Sheet.{Load, sheetOf, written, Tells}
+use Rattle.boundary.specs.Boundary.{BuildPromise, heldIn, SearchPromise}
 use Rattle.day.specs.EndToEnd.{Lot}
 
 -- two answers that are both this one
@@ -29,6 +33,14 @@ Promised kind bytes ends values entry exit r =
     (entry .trie) (entry .owns) (entry .notes) (entry .spots) (entry .base) (entry .link) (entry .output) (entry .check) (entry .depth) (entry .outs)
     (exit .trie) (exit .owns) (exit .notes) (exit .spots) (exit .base) (exit .link) (exit .output) (exit .check) (exit .depth) (exit .outs)
     r
+
+-- the promise of the exported build likewise, with the four numbers beside the answer
+abbrev pub Exported : ℕ → List ℕ → List ℕ → List ℕ → Lot → Lot → List ℕ → ℕ → Type 0
+Exported kind bytes ends values entry exit counts r =
+    BuildPromise kind bytes ends values
+    (entry .trie) (entry .owns) (entry .notes) (entry .spots) (entry .base) (entry .link) (entry .output) (entry .check) (entry .depth) (entry .outs)
+    (exit .trie) (exit .owns) (exit .notes) (exit .spots) (exit .base) (exit .link) (exit .output) (exit .check) (exit .depth) (exit .outs)
+    counts r
 
 -- each public function by its name
 pub record OneAnswer : Type 0 where
@@ -49,3 +61,20 @@ pub record OneAnswer : Type 0 where
       → answer r ≡ nextOf w T kind text v
       → answer r' ≡ nextOf w T kind text v
       → r ≡ r'
+  -- a sheet: the answer, and the sheet itself
+  pub fill : (w : Which) (T : Tables) (kind : ℕ) (text : List ℕ) (v : Search) (sheet₀ sheet sheet' : List (List ℕ)) (r r' : Filled)
+      → Tells r (sheetOf w T kind text (length sheet₀) v)
+      → sheet ≡ written (sheetOf w T kind text (length sheet₀) v) sheet₀
+      → Tells r' (sheetOf w T kind text (length sheet₀) v)
+      → sheet' ≡ written (sheetOf w T kind text (length sheet₀) v) sheet₀
+      → (r ≡ r') × (sheet ≡ sheet')
+  -- the exported build: the number, the four beside it, and every lent table
+  pub exported-build : (kind : ℕ) (bytes ends values : List ℕ) (entry exit exit' : Lot) (counts counts' : List ℕ) (r r' : ℕ)
+      → Exported kind bytes ends values entry exit counts r
+      → Exported kind bytes ends values entry exit' counts' r'
+      → (r ≡ r') × (counts ≡ counts') × (exit ≡ exit')
+  -- the exported searches: the number, the value in its variables, the sheet and the count
+  pub exported-search : (l : Load) (sheet₀ sheet sheet' : List (List ℕ)) (state pending place moves state' pending' place' moves' count count' r r' : ℕ)
+      → SearchPromise l sheet₀ state pending place moves sheet count r
+      → SearchPromise l sheet₀ state' pending' place' moves' sheet' count' r'
+      → (r ≡ r') × (heldIn state pending place moves ≡ heldIn state' pending' place' moves') × (sheet ≡ sheet') × (count ≡ count')

@@ -8,7 +8,7 @@ use Rattle.search.specs.declared.Search.{Search}
 use Rattle.search.specs.Values.{Which, lent}
 use Rattle.sheet.specs.declared.Filled.{Filled}
 use Rattle.sheet.specs.Sheet.{Load, sheetOf, written, stopOf, Tells}
-use Rattle.exports.specs.Boundary.{stopNumber, countsOf, heldIn, SearchPromise}
+use Rattle.boundary.specs.Boundary.{stopNumber, countsOf, heldIn, SearchPromise}
 
 -- for a load that is the one told
 told : (l l' : Load) → l ≡ l' → (filled : Filled) → Tells filled l

@@ -30,7 +30,7 @@ pub record Turn (values : List ℕ) (Left : Search → List Found → Type 0) (o
 
 -- ---- the first n of a list with enough ends after it
 
-take-ends : (n k : ℕ) (l : List Saying) → n ≤ k → take n (l ++ replicate (suc k) end) ≡ take n (l ++ replicate k end)
+pub take-ends : (n k : ℕ) (l : List Saying) → n ≤ k → take n (l ++ replicate (suc k) end) ≡ take n (l ++ replicate k end)
 take-ends zero k l h = refl
 take-ends (suc n) zero l h = absurd (not-suc-le-zero h)
 take-ends (suc n) (suc k) [] h = ap (λ (r : List Saying). end ∷ r) (take-ends n k [] (omega arith))

@@ -1,7 +1,6 @@
 -- A sheet that is being filled: what the answers so far and those to come have to do with the whole load. Over any search.
 use mathlib.Core.Path.{_≡_, refl, sym, ap, ap₂, _∙_, subst}
 use mathlib.Core.List.{List, [], _∷_, _++_, append-nil}
-use mathlib.Core.List as lists
 use Prim.Native.Nat.{ℕ, zero, suc, _+_, _-_, _≤_, _<_}
 use native.Mathlib.Nat.{not-suc-le-zero, le-of-suc-le-suc}
 use native.Mathlib.Omega.{arith}
@@ -14,6 +13,7 @@ use Rattle.search.specs.Values.{Outcome, gives, ends, refuses}
 use Rattle.search.specs.Searches.{nextOf}
 use Rattle.sheet.specs.declared.Which.{Which}
 use Rattle.sheet.specs.declared.Filled.{Filled}
+use Rattle.sheet.specs.Claims.{after}
 use Rattle.sheet.specs.Sheet.{searchOf, recordOf, Stop, full, ended, refused, Load, stopping, before, onAnswer, loadOf, written, stopOf, Tells}
 
 -- the answer of the search that is meant
@@ -43,10 +43,6 @@ set-next [] tail y x = refl
 set-next (z ∷ done) tail y x = ap (λ t. z ∷ t) (set-next done tail y x)
 
 -- ---- loads
-
--- these records before those of a load
-abbrev pub after : List (List ℕ) → Load → Load
-after rows l = record { records = rows ++ l .records; stop = l .stop; value = l .value }
 
 module _ (next : Search → Outcome) where
   load-full : (n : ℕ) (v : Search) → n ≡ 0 → loadOf next n v ≡ stopping full v

@@ -5,8 +5,8 @@ use Rattle.exports.proofs.rotspangle_build.Tie as tie
 use Rattle.exports.proofs.rotspangle_build.Reads as reads
 use Rattle.exports.proofs.rotspangle_build.Lts as lts
 use Rattle.build.proofs.build.Reads as build-reads
-use Rattle.exports.proofs.beside_of.Reads as beside-of-reads
-use Rattle.exports.proofs.number_of.Reads as number-of-reads
+use Rattle.boundary.proofs.beside_of.Reads as beside-of-reads
+use Rattle.boundary.proofs.number_of.Reads as number-of-reads
 
 -- src/lib.rt:78:9
 build-requires : tie.Need-build-requires

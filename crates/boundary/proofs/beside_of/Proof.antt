@@ -2,12 +2,12 @@
 use mathlib.Core.Path.{sym, ap}
 use Rattle.build.specs.declared.Built.{Built}
 use Rattle.build.specs.Outcome.{answer}
-use Rattle.exports.specs.Boundary.{beside}
+use Rattle.boundary.specs.Boundary.{beside}
 use borrow.Author.Needs.{needs}
-use Rattle.exports.proofs.beside_of.Statement.{statement}
-use Rattle.exports.proofs.beside_of.Tie as tie
-use Rattle.exports.proofs.beside_of.Reads as reads
-use Rattle.exports.proofs.beside_of.Lts as lts
+use Rattle.boundary.proofs.beside_of.Statement.{statement}
+use Rattle.boundary.proofs.beside_of.Tie as tie
+use Rattle.boundary.proofs.beside_of.Reads as reads
+use Rattle.boundary.proofs.beside_of.Lts as lts
 
 -- src/lib.rt:41:21
 enum-known-built : tie.Need-enum-known-built
