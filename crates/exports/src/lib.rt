@@ -5,7 +5,6 @@ use boundary::counts_of;
 use boundary::hand_back;
 use boundary::held_in;
 use boundary::number_of;
-use sheet::Which;
 use table::Depth;
 ghost use mathlib.Core.Path.{_≡_};
 ghost use lib.ListN.{length};
@@ -83,8 +82,7 @@ pub extern "C" fn rotspangle_overlapping(
         (heldIn (now (state .entry)) (now (pending .entry)) (now (place .entry)) (now (moves .entry)))) (now (sheet .entry))
         (now (state .exit)) (now (pending .exit)) (now (place .exit)) (now (moves .exit)) (now (sheet .exit)) (now (written .exit)) r ⌝ }
 {
-    let filled = sheet::fill(
-        Which::Overlapping,
+    let filled = sheet::fill_overlapping(
         held_in(*state, *pending, *place, *moves),
         base,
         link,
@@ -124,8 +122,7 @@ pub extern "C" fn rotspangle_plain(
         (heldIn (now (state .entry)) (now (pending .entry)) (now (place .entry)) (now (moves .entry)))) (now (sheet .entry))
         (now (state .exit)) (now (pending .exit)) (now (place .exit)) (now (moves .exit)) (now (sheet .exit)) (now (written .exit)) r ⌝ }
 {
-    let filled = sheet::fill(
-        Which::Plain,
+    let filled = sheet::fill_plain(
         held_in(*state, *pending, *place, *moves),
         base,
         link,
@@ -165,8 +162,7 @@ pub extern "C" fn rotspangle_leftmost(
         (heldIn (now (state .entry)) (now (pending .entry)) (now (place .entry)) (now (moves .entry)))) (now (sheet .entry))
         (now (state .exit)) (now (pending .exit)) (now (place .exit)) (now (moves .exit)) (now (sheet .exit)) (now (written .exit)) r ⌝ }
 {
-    let filled = sheet::fill(
-        Which::Leftmost,
+    let filled = sheet::fill_leftmost(
         held_in(*state, *pending, *place, *moves),
         base,
         link,

@@ -132,7 +132,7 @@ module _ (w : Which) (T : Tables) (kind : ℕ) (text : List ℕ) (v : Search) wh
       ap (λ (j : ℕ). sheetOf w T kind text j v) one-more ∙ sym (ap (λ (j : ℕ). loadOf (nextOf w T kind text) j v) one-more)
       ∙ load-joined (nextOf w T kind text) (suc n) (suc k) v e
 
-  sheet-told : (n : ℕ) (t : Told) → lowest (barred w kind (length text)) ≡ some t → sheetOf w T kind text n v ≡ stopping (refused (t .number)) v
+  sheet-told : (n : ℕ) (t : Told) → lowest (barred (isLeftmost w) kind (length text)) ≡ some t → sheetOf w T kind text n v ≡ stopping (refused (t .number)) v
   unfolding sheetOf loadOf nextOf
   sheet-told zero t e = ap (λ (o : Option Told). stopping (atOnce o) v) e
   sheet-told (suc n) t e =

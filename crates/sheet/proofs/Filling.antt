@@ -5,23 +5,12 @@ use Prim.Native.Nat.{ℕ, zero, suc, _+_, _-_, _≤_, _<_}
 use native.Mathlib.Nat.{not-suc-le-zero, le-of-suc-le-suc}
 use native.Mathlib.Omega.{arith}
 use lib.ListN.{length, drop, set, getD}
-use Rattle.table.specs.Agrees.{Tables}
 use Rattle.search.specs.declared.Search.{Search}
 use Rattle.search.specs.declared.Match.{Match}
-use Rattle.search.specs.Values as search
 use Rattle.search.specs.Values.{Outcome, gives, ends, refuses}
-use Rattle.search.specs.Searches.{nextOf}
-use Rattle.sheet.specs.declared.Which.{Which}
 use Rattle.sheet.specs.declared.Filled.{Filled}
 use Rattle.sheet.specs.Claims.{after}
-use Rattle.sheet.specs.Sheet.{searchOf, recordOf, Stop, full, ended, refused, Load, stopping, before, onAnswer, loadOf, written, stopOf, Tells}
-
--- the answer of the search that is meant
-pub meant : (w : Which) (s : search.Which) (o : Outcome) (T : Tables) (kind : ℕ) (text : List ℕ) (v : Search)
-    → o ≡ nextOf s T kind text v
-    → searchOf w ≡ s
-    → o ≡ nextOf (searchOf w) T kind text v
-meant w s o T kind text v is-next is-search = is-next ∙ ap (λ (s' : search.Which). nextOf s' T kind text v) (sym is-search)
+use Rattle.sheet.specs.Sheet.{recordOf, Stop, full, ended, refused, Load, stopping, before, onAnswer, loadOf, written, stopOf, Tells}
 
 -- ---- rows
 

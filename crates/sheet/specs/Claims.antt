@@ -9,6 +9,7 @@ use Rattle.list.specs.Refusals.{Told, lowest}
 use Rattle.table.specs.Agrees.{Tables}
 use Rattle.search.specs.declared.Search.{Search}
 use Rattle.search.specs.Values.{Which}
+use Rattle.search.specs.Searches.{isLeftmost}
 use Rattle.sheet.specs.declared.Filled.{Filled}
 use Rattle.sheet.specs.Sheet.{Load, full, refused, stopping, barred, sheetOf, Tells}
 
@@ -27,4 +28,4 @@ pub record SheetClaims (w : Which) (T : Tables) (kind : ℕ) (text : List ℕ) (
   pub joined : (n k : ℕ) → sheetOf w T kind text n v .stop ≡ full
       → sheetOf w T kind text (n + suc k) v ≡ after (sheetOf w T kind text n v .records) (sheetOf w T kind text (suc k) (sheetOf w T kind text n v .value))
   -- 9 and 10 are told whatever slots there are, with no record and the value as it was
-  pub told-first : (n : ℕ) (t : Told) → lowest (barred w kind (length text)) ≡ some t → sheetOf w T kind text n v ≡ stopping (refused (t .number)) v
+  pub told-first : (n : ℕ) (t : Told) → lowest (barred (isLeftmost w) kind (length text)) ≡ some t → sheetOf w T kind text n v ≡ stopping (refused (t .number)) v

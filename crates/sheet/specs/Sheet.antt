@@ -1,5 +1,6 @@
 -- What a sheet holds after a call, said once for every search: the records of the answers in turn, up to the last slot, the end or a refusal.
 use mathlib.Core.Path.{_≡_}
+use mathlib.Core.Bool.{Bool}
 use mathlib.Core.List.{List, [], _∷_, _++_}
 use mathlib.Core.Option.{Option, none, some}
 use Prim.Native.Nat.{ℕ, zero, suc}
@@ -10,12 +11,9 @@ use Rattle.list.specs.Refusals.{Told, Refusal, plainly, lowest}
 use Rattle.table.specs.Agrees.{Tables}
 use Rattle.search.specs.declared.Search.{Search}
 use Rattle.search.specs.declared.Match.{Match}
-use Rattle.search.specs.Values as search
-use Rattle.search.specs.Values.{Outcome, gives, ends, refuses, number}
+use Rattle.search.specs.Values.{Which, Outcome, gives, ends, refuses, number}
 use Rattle.search.specs.Admission.{otherKind}
 use Rattle.search.specs.Searches.{nextOf, isLeftmost}
-use Rattle.sheet.specs.declared.Which.{Which}
-use Rattle.sheet.specs.declared.Which.the-variants as which
 use Rattle.sheet.specs.declared.Stop as declared
 use Rattle.sheet.specs.declared.Stop.the-variants as stop
 use Rattle.sheet.specs.declared.Filled.{Filled}
@@ -56,8 +54,8 @@ loadOf next zero v = stopping full v
 loadOf next (suc n) v = onAnswer (next v) (λ m u. before (recordOf m) (loadOf next n u))
 
 -- refusals 9 and 10, which come before an empty sheet is full
-abbrev pub barred : search.Which → ℕ → ℕ → List Refusal
-barred w kind size = plainly 9 (otherKind (isLeftmost w) kind) ∷ plainly 10 (ltb mostText size) ∷ []
+abbrev pub barred : Bool → ℕ → ℕ → List Refusal
+barred leftmost kind size = plainly 9 (otherKind leftmost kind) ∷ plainly 10 (ltb mostText size) ∷ []
 
 -- how a call with an empty sheet stops: it is refused, or full at once
 abbrev pub atOnce : Option Told → Stop
@@ -65,19 +63,13 @@ atOnce none = full
 atOnce (some t) = refused (t .number)
 
 -- what a call with so many slots comes to
-unfoldable pub sheetOf : search.Which → Tables → ℕ → List ℕ → ℕ → Search → Load
-sheetOf w T kind text zero v = stopping (atOnce (lowest (barred w kind (length text)))) v
+unfoldable pub sheetOf : Which → Tables → ℕ → List ℕ → ℕ → Search → Load
+sheetOf w T kind text zero v = stopping (atOnce (lowest (barred (isLeftmost w) kind (length text)))) v
 sheetOf w T kind text (suc n) v = loadOf (nextOf w T kind text) (suc n) v
 
 -- the sheet after it: the records, and past them what stood there
 abbrev pub written : Load → List (List ℕ) → List (List ℕ)
 written l rows = l .records ++ drop (length (l .records)) rows
-
--- the search that is meant
-abbrev pub searchOf : Which → search.Which
-searchOf which.Overlapping = search.overlapping
-searchOf which.Plain = search.plain
-searchOf which.Leftmost = search.leftmost
 
 -- the code's stop as such
 abbrev pub stopOf : declared.Stop → Stop
