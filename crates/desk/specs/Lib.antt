@@ -1,0 +1,6 @@
+pub mod Stretches
+pub mod Numbers
+pub mod Rows
+pub mod Codes
+pub mod Places
+pub mod Hazards

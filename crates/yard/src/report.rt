@@ -1,0 +1,485 @@
+// What is printed of a sheet.
+ghost use Rattle.desk.specs.Places.{Right};
+use crate::lines::LINE;
+use crate::lines::OUT;
+use crate::lines::write_line;
+use crate::matches::call;
+use crate::matches::hazard_at;
+use crate::refuse::tell_refused;
+use crate::refuse::tell_unwritten;
+use crate::work::CELLS;
+use crate::work::OUTPUTS;
+use desk::places::Place;
+use desk::places::first_place;
+use desk::places::follow;
+use desk::places::place_at;
+use desk::text::put;
+use desk::text::put_number;
+use desk::text::put_shown;
+use desk::words::Way;
+use search::Answer;
+use search::Match;
+use search::Refusal;
+use search::Search;
+use std::num::wrapping_add_u64;
+use table::Counts;
+use table::Depth;
+
+// A proved loop has to end. So the calls are counted down, from a number that no search uses up: a sheet has at most 65,536 places, and at each of them at
+// most 1,024 codes end.
+const CALLS: u32 = 67108865;
+
+// How a run of calls came out.
+enum Outcome {
+    Done,
+    Unwritten,
+    Refused(Refusal),
+}
+
+// How many matches of each sort there are.
+struct Tally {
+    hazards: u64,
+    others: u64,
+}
+
+// ---- numbers alone
+
+fn write_match(line: &mut [u8; LINE], found: Match) -> bool {
+    let started = put_number(line, 0, found.start as u64);
+    let parted = put(line, started, b" ");
+    let ended = put_number(line, parted, found.end as u64);
+    let again = put(line, ended, b" ");
+    let valued = put_number(line, again, found.value as u64);
+    let last = put(line, valued, b"\n");
+    write_line(OUT, line, last)
+}
+
+fn write_moves(line: &mut [u8; LINE], moves: u64) -> bool {
+    let begun = put(line, 0, b"moves ");
+    let counted = put_number(line, begun, moves);
+    let last = put(line, counted, b"\n");
+    write_line(OUT, line, last)
+}
+
+fn outcome_of(written: bool) -> Outcome {
+    if written {
+        return Outcome::Done;
+    }
+    Outcome::Unwritten
+}
+
+fn print_numbers(
+    way: Way,
+    base: &[u32],
+    link: &[u32],
+    output: &[u32],
+    check: &[u8],
+    depth: &[Depth],
+    outs: &[[u32; 3]],
+    counts: Counts,
+    sheet: &[u8],
+) -> Outcome {
+    let mut line = [0u8; LINE];
+    let mut at = Search::fresh();
+    for _ in 0..CALLS {
+        match call(
+            way,
+            at,
+            base,
+            link,
+            output,
+            check,
+            depth,
+            outs,
+            counts,
+            sheet,
+        ) {
+            Answer::Match(found, next) => {
+                if !write_match(&mut line, found) {
+                    return Outcome::Unwritten;
+                }
+                at = next;
+            }
+            Answer::End(last) => {
+                return outcome_of(write_moves(&mut line, last.moves));
+            }
+            Answer::Refused(why, _) => {
+                return Outcome::Refused(why);
+            }
+        }
+    }
+    Outcome::Refused(Refusal::Damage)
+}
+
+// ---- for people
+
+fn counted(tally: Tally, hazard: bool) -> Tally {
+    if hazard {
+        return Tally {
+            hazards: wrapping_add_u64(tally.hazards, 1),
+            others: tally.others,
+        };
+    }
+    Tally {
+        hazards: tally.hazards,
+        others: wrapping_add_u64(tally.others, 1),
+    }
+}
+
+fn count_matches(
+    way: Way,
+    bytes: &[u8],
+    ends: &[u32],
+    marks: &[u8],
+    base: &[u32],
+    link: &[u32],
+    output: &[u32],
+    check: &[u8],
+    depth: &[Depth],
+    outs: &[[u32; 3]],
+    counts: Counts,
+    sheet: &[u8],
+) -> Tally {
+    let mut tally = Tally {
+        hazards: 0,
+        others: 0,
+    };
+    let mut at = Search::fresh();
+    for _ in 0..CALLS {
+        let Answer::Match(found, next) = call(
+            way,
+            at,
+            base,
+            link,
+            output,
+            check,
+            depth,
+            outs,
+            counts,
+            sheet,
+        ) else {
+            return tally;
+        };
+        let hazard = hazard_at(bytes, ends, marks, sheet, found.start, found.end);
+        tally = counted(tally, hazard);
+        at = next;
+    }
+    tally
+}
+
+fn put_stretch(
+    line: &mut [u8; LINE],
+    size: usize,
+    sheet: &[u8],
+    start: usize,
+    end: usize,
+) -> usize {
+    if start <= end {
+        if end <= sheet.len() {
+            return put_shown(line, size, &sheet[start..end]);
+        }
+    }
+    size
+}
+
+fn put_sort(line: &mut [u8; LINE], hazard: bool) -> usize {
+    if hazard {
+        return put(line, 0, b"!!! HAZARD ");
+    }
+    0
+}
+
+fn write_found(
+    line: &mut [u8; LINE],
+    hazard: bool,
+    sheet: &[u8],
+    found: Match,
+    place: Place,
+) -> bool {
+    let sorted = put_sort(line, hazard);
+    let begun = put(line, sorted, b"line ");
+    let lined = put_number(line, begun, place.line as u64);
+    let parted = put(line, lined, b", column ");
+    let placed = put_number(line, parted, place.column as u64);
+    let again = put(line, placed, b": ");
+    let shown = put_stretch(line, again, sheet, found.start, found.end);
+    let valuing = put(line, shown, b" (value ");
+    let valued = put_number(line, valuing, found.value as u64);
+    let last = put(line, valued, b")\n");
+    write_line(OUT, line, last)
+}
+
+// The hazards, or the others, in the order of the search. `near` is a place before which no later match begins.
+fn print_sort(
+    hazards: bool,
+    way: Way,
+    bytes: &[u8],
+    ends: &[u32],
+    marks: &[u8],
+    base: &[u32],
+    link: &[u32],
+    output: &[u32],
+    check: &[u8],
+    depth: &[Depth],
+    outs: &[[u32; 3]],
+    counts: Counts,
+    sheet: &[u8],
+) -> Outcome {
+    let mut line = [0u8; LINE];
+    let mut near = first_place();
+    let mut at = Search::fresh();
+    for _ in 0..CALLS {
+        match call(
+            way,
+            at,
+            base,
+            link,
+            output,
+            check,
+            depth,
+            outs,
+            counts,
+            sheet,
+        ) {
+            Answer::Match(found, next) => {
+                near = follow(sheet, near, found.end);
+                if hazard_at(bytes, ends, marks, sheet, found.start, found.end) == hazards {
+                    let place = place_at(sheet, near, found.start);
+                    if !write_found(&mut line, hazards, sheet, found, place) {
+                        return Outcome::Unwritten;
+                    }
+                }
+                at = next;
+            }
+            Answer::End(_) => {
+                return Outcome::Done;
+            }
+            Answer::Refused(why, _) => {
+                return Outcome::Refused(why);
+            }
+        }
+    }
+    Outcome::Refused(Refusal::Damage)
+}
+
+// A number and what it counts.
+fn put_counted(line: &mut [u8; LINE], end: usize, number: u64, one: &[u8], many: &[u8]) -> usize {
+    let said = put_number(line, end, number);
+    if number == 1 {
+        return put(line, said, one);
+    }
+    put(line, said, many)
+}
+
+fn write_heading(line: &mut [u8; LINE], name: &[u8], tally: Tally) -> bool {
+    let named = put_shown(line, 0, name);
+    let parted = put(line, named, b": ");
+    let hazards = put_counted(line, parted, tally.hazards, b" hazard, ", b" hazards, ");
+    let others = put_counted(
+        line,
+        hazards,
+        tally.others,
+        b" other match\n",
+        b" other matches\n",
+    );
+    write_line(OUT, line, others)
+}
+
+// No match at all is said plainly.
+fn write_nothing(line: &mut [u8; LINE], tally: Tally) -> bool {
+    if tally.hazards == 0 {
+        if tally.others == 0 {
+            let said = put(line, 0, b"No code of the list is in the sheet.\n");
+            return write_line(OUT, line, said);
+        }
+    }
+    true
+}
+
+fn write_last(line: &mut [u8; LINE], name: &[u8], hazards: u64) -> bool {
+    if hazards == 0 {
+        let none = put(line, 0, b"No hazards in ");
+        let named = put_shown(line, none, name);
+        let ended = put(line, named, b".\n");
+        return write_line(OUT, line, ended);
+    }
+    let begun = put(line, 0, b"!!! ");
+    let counted = put_counted(line, begun, hazards, b" HAZARD in ", b" HAZARDS in ");
+    let named = put_shown(line, counted, name);
+    let ended = put(line, named, b"\n");
+    write_line(OUT, line, ended)
+}
+
+fn print_report(
+    way: Way,
+    name: &[u8],
+    bytes: &[u8],
+    ends: &[u32],
+    marks: &[u8],
+    base: &[u32],
+    link: &[u32],
+    output: &[u32],
+    check: &[u8],
+    depth: &[Depth],
+    outs: &[[u32; 3]],
+    counts: Counts,
+    sheet: &[u8],
+) -> Outcome {
+    let mut line = [0u8; LINE];
+    let tally = count_matches(
+        way,
+        bytes,
+        ends,
+        marks,
+        base,
+        link,
+        output,
+        check,
+        depth,
+        outs,
+        counts,
+        sheet,
+    );
+    if !write_heading(&mut line, name, tally) {
+        return Outcome::Unwritten;
+    }
+    if !write_nothing(&mut line, tally) {
+        return Outcome::Unwritten;
+    }
+    let first = print_sort(
+        true,
+        way,
+        bytes,
+        ends,
+        marks,
+        base,
+        link,
+        output,
+        check,
+        depth,
+        outs,
+        counts,
+        sheet,
+    );
+    let Outcome::Done = first else {
+        return first;
+    };
+    let second = print_sort(
+        false,
+        way,
+        bytes,
+        ends,
+        marks,
+        base,
+        link,
+        output,
+        check,
+        depth,
+        outs,
+        counts,
+        sheet,
+    );
+    let Outcome::Done = second else {
+        return second;
+    };
+    outcome_of(write_last(&mut line, name, tally.hazards))
+}
+
+fn tell_outcome(name: &[u8], outcome: Outcome) {
+    match outcome {
+        Outcome::Done => {}
+        Outcome::Unwritten => tell_unwritten(),
+        Outcome::Refused(why) => tell_refused(name, why),
+    }
+}
+
+// The first answer of the search says whether it takes the sheet. Nothing is printed before.
+fn tell_lent(
+    way: Way,
+    numbers: bool,
+    name: &[u8],
+    bytes: &[u8],
+    ends: &[u32],
+    marks: &[u8],
+    base: &[u32],
+    link: &[u32],
+    output: &[u32],
+    check: &[u8],
+    depth: &[Depth],
+    outs: &[[u32; 3]],
+    counts: Counts,
+    sheet: &[u8],
+) {
+    let begun = Search::fresh();
+    if let Answer::Refused(why, _) = call(
+        way,
+        begun,
+        base,
+        link,
+        output,
+        check,
+        depth,
+        outs,
+        counts,
+        sheet,
+    ) {
+        tell_refused(name, why);
+        return;
+    }
+    if numbers {
+        let told = print_numbers(way, base, link, output, check, depth, outs, counts, sheet);
+        tell_outcome(name, told);
+        return;
+    }
+    let told = print_report(
+        way,
+        name,
+        bytes,
+        ends,
+        marks,
+        base,
+        link,
+        output,
+        check,
+        depth,
+        outs,
+        counts,
+        sheet,
+    );
+    tell_outcome(name, told);
+}
+
+// From arrays, which become slices here: to make them slices where they are built is dear to check.
+pub(crate) fn tell_all(
+    way: Way,
+    numbers: bool,
+    name: &[u8],
+    bytes: &[u8],
+    ends: &[u32],
+    marks: &[u8],
+    base: &[u32; CELLS],
+    link: &[u32; CELLS],
+    output: &[u32; CELLS],
+    check: &[u8; CELLS],
+    depth: &[Depth; CELLS],
+    outs: &[[u32; 3]; OUTPUTS],
+    counts: Counts,
+    sheet: &[u8],
+) {
+    tell_lent(
+        way,
+        numbers,
+        name,
+        bytes,
+        ends,
+        marks,
+        base,
+        link,
+        output,
+        check,
+        depth,
+        outs,
+        counts,
+        sheet,
+    );
+}
