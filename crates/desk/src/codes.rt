@@ -77,17 +77,13 @@ pub fn read_codes(
             return Codes::TooMany;
         }
         let stop = line_end(file, at);
-        match read_line(file, at, stop, rows as u32) {
-            Line::Code(mark, value, from, to) => {
-                end = append(bytes, end, &file[from..to]);
-                ends[rows] = end as u32;
-                values[rows] = value;
-                marks[rows] = mark;
-            }
-            Line::BadValue => {
-                return Codes::BadValue(rows);
-            }
-        }
+        let Line::Code(mark, value, from, to) = read_line(file, at, stop, rows as u32) else {
+            return Codes::BadValue(rows);
+        };
+        end = append(bytes, end, &file[from..to]);
+        ends[rows] = end as u32;
+        values[rows] = value;
+        marks[rows] = mark;
         rows += 1;
         at = stop + 1;
     }

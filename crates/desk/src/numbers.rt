@@ -33,10 +33,11 @@ pub fn number_of(digits: &[u8]) -> Spelled
     let mut i = 0;
     while i < digits.len() {
         let byte = digits[i];
-        if !is_digit(byte) {
+        if is_digit(byte) {
+            number = number * 10 + (wide(byte) - 48);
+        } else {
             return Spelled::Nothing;
         }
-        number = number * 10 + (wide(byte) - 48);
         // More digits only make it larger.
         if MOST_VALUE < number {
             return Spelled::Nothing;

@@ -18,6 +18,7 @@ pub struct Place {
 // The first place of every sheet.
 pub fn first_place() -> Place
     ensures { λ r. ⌜ ((sheet : List ℕ) → Right sheet r) ⌝ }
+    ensures { λ r. ⌜ r .at ≡ 0 ⌝ }
 {
     Place {
         at: 0,

@@ -1,8 +1,5 @@
 // A line put together in a buffer, so that it is written at once. What does not fit is left out: each function answers where the line ends now, which
 // is never past the buffer.
-ghost use Prim.Native.Nat.{_≤_};
-ghost use lib.ListN.{length};
-
 const BACKSLASH: u8 = 92;
 
 const LOWER_X: u8 = 120;
@@ -57,16 +54,19 @@ fn put_escaped(line: &mut [u8], end: usize, byte: u8) -> usize {
     put_byte(line, third, digit(byte % 16))
 }
 
+fn put_visible(line: &mut [u8], end: usize, byte: u8) -> usize {
+    if is_control(byte) {
+        return put_escaped(line, end, byte);
+    }
+    put_byte(line, end, byte)
+}
+
 // A code or a file's name: control bytes as \xHH, so that nothing can disturb a terminal.
 pub fn put_shown(line: &mut [u8], end: usize, part: &[u8]) -> usize {
     let mut at = end;
     let mut i = 0;
     while i < part.len() {
-        if is_control(part[i]) {
-            at = put_escaped(line, at, part[i]);
-        } else {
-            at = put_byte(line, at, part[i]);
-        }
+        at = put_visible(line, at, part[i]);
         i += 1;
     }
     at

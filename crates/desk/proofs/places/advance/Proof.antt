@@ -1,38 +1,35 @@
+-- `desk::places::advance` is right at the place that is asked for. The invariant: it is right so far.
+use mathlib.Core.Path.{_≡_, refl}
+use Prim.Native.Nat.{_-_, _≤_}
+use lib.ListN.{length}
+use Rattle.desk.specs.Places.{Right, Next}
+use borrow.Author.Needs.{needs}
 use Rattle.desk.proofs.places.advance.Statement.{statement}
 use Rattle.desk.proofs.places.advance.Tie as tie
-use Rattle.desk.proofs.places.advance.Reads as reads
-use Rattle.desk.proofs.places.advance.Lts as lts
-use Rattle.desk.proofs.places.next_place.Reads as next-place-reads
 
 abbrev Inv-loop : tie.InvT-loop
-Inv-loop sheet to place₀ place = ?
+Inv-loop sheet to place₀ place = Right sheet place × (place .at ≤ to)
 
 abbrev μ-loop : tie.MeasureT-loop
-μ-loop sheet to place₀ place = ?
+μ-loop sheet to place₀ place = to - place .at
 
--- src/places.rt:57:5
 loop-holds : tie.Need-loop-holds Inv-loop μ-loop
-loop-holds c = ?
+loop-holds c = search needs
 
--- src/places.rt:59:42
 shared-slice-read-next-place : tie.Need-shared-slice-read-next-place Inv-loop μ-loop
-shared-slice-read-next-place c = ?
+shared-slice-read-next-place c = search needs
 
--- src/places.rt:59:9
 next-place-requires : tie.Need-next-place-requires Inv-loop μ-loop
-next-place-requires c κs = ?
+next-place-requires c κs = search needs
 
--- src/places.rt:57:5
 loop-less : tie.Need-loop-less Inv-loop μ-loop
-loop-less c = ?
+loop-less c = search needs
 
--- src/places.rt:57:5
 loop-again : tie.Need-loop-again Inv-loop μ-loop
-loop-again c = ?
+loop-again c = search needs
 
--- src/places.rt:50:1
 returns : tie.Need-returns Inv-loop μ-loop
-returns c = ?
+returns c = search needs
 
 pub advance-spec : {M : Type 1} → statement M
 advance-spec =

@@ -1,11 +1,11 @@
+-- `desk::places::first_place` is right in every sheet.
+use mathlib.Core.Path.{refl}
+use Rattle.desk.proofs.Locating.{right-first}
 use Rattle.desk.proofs.places.first_place.Statement.{statement}
 use Rattle.desk.proofs.places.first_place.Tie as tie
-use Rattle.desk.proofs.places.first_place.Reads as reads
-use Rattle.desk.proofs.places.first_place.Lts as lts
 
--- src/places.rt:19:1
 returns : tie.Need-returns
-returns c = ?
+returns c = ((λ sheet. right-first sheet), refl)
 
 pub first-place-spec : {M : Type 1} → statement M
 first-place-spec = tie.close (tie.spec returns)

@@ -1,49 +1,55 @@
+-- `desk::stretches::same_bytes` is `same`. The invariant: what is left is the same exactly if all is.
+use mathlib.Core.Path.{_≡_, refl, sym, _∙_}
+use Prim.Native.Nat.{_-_, _≤_}
+use lib.ListN.{length, drop}
+use Rattle.paper.specs.Lists.{same}
+use Rattle.desk.proofs.Scanning.{unequal-lengths, same-not, same-next, same-all}
+use borrow.Author.Needs.{needs}
+use native.Mathlib.Omega.{arith}
 use Rattle.desk.proofs.stretches.same_bytes.Statement.{statement}
 use Rattle.desk.proofs.stretches.same_bytes.Tie as tie
-use Rattle.desk.proofs.stretches.same_bytes.Reads as reads
-use Rattle.desk.proofs.stretches.same_bytes.Lts as lts
 
 abbrev Inv-loop : tie.InvT-loop
-Inv-loop one other i₀ i = ?
+Inv-loop one other i₀ i = (i ≤ length one) × (same (drop i one) (drop i other) ≡ same one other)
 
 abbrev μ-loop : tie.MeasureT-loop
-μ-loop one other i₀ i = ?
+μ-loop one other i₀ i = length one - i
 
--- src/stretches.rt:56:9
 returns : tie.Need-returns Inv-loop μ-loop
-returns c = ?
+returns c = unequal-lengths (c .before .args .one .now) (c .before .args .other .now) (c .if1 .taken)
 
--- src/stretches.rt:59:5
 loop-holds : tie.Need-loop-holds Inv-loop μ-loop
-loop-holds c = ?
+loop-holds c = (omega arith, refl)
 
--- src/stretches.rt:60:12
 shared-slice-read-if2 : tie.Need-shared-slice-read-if2 Inv-loop μ-loop
-shared-slice-read-if2 c = ?
+shared-slice-read-if2 c = search needs
 
--- src/stretches.rt:60:22
 shared-slice-read-if2-2 : tie.Need-shared-slice-read-if2-2 Inv-loop μ-loop
-shared-slice-read-if2-2 c = ?
+shared-slice-read-if2-2 c = search needs
 
--- src/stretches.rt:61:13
 returns-2 : tie.Need-returns-2 Inv-loop μ-loop
-returns-2 c = ?
+returns-2 c = 
+    let start = c .before .before .before .before .before .before in
+    let turn = c .before .before .before .before .loop in
+    sym (same-not (start .args .one .now) (start .args .other .now) (turn .i) (omega arith) (omega arith) (c .if2 .taken)) ∙ turn .inv .1
 
--- src/stretches.rt:63:9
 add-i : tie.Need-add-i Inv-loop μ-loop
-add-i c = ?
+add-i c = search needs
 
--- src/stretches.rt:59:5
 loop-less : tie.Need-loop-less Inv-loop μ-loop
-loop-less c = ?
+loop-less c = search needs
 
--- src/stretches.rt:59:5
 loop-again : tie.Need-loop-again Inv-loop μ-loop
-loop-again c = ?
+loop-again c = 
+    let start = c .before .before .before .before .before .before in
+    let turn = c .before .before .before .before .loop in
+    (omega arith, same-next (start .args .one .now) (start .args .other .now) (turn .i) (omega arith) (omega arith) (c .if2 .left) ∙ turn .inv .1)
 
--- src/stretches.rt:52:1
 returns-3 : tie.Need-returns-3 Inv-loop μ-loop
-returns-3 c = ?
+returns-3 c = 
+    let start = c .before .before .before in
+    let turn = c .before .loop in
+    sym (same-all (start .args .one .now) (start .args .other .now) (turn .i) (omega arith) (omega arith)) ∙ turn .inv .1
 
 pub same-bytes-spec : {M : Type 1} → statement M
 same-bytes-spec =

@@ -1,46 +1,40 @@
+-- `desk::text::put` stays within its line, whose length it keeps.
+use mathlib.Core.Path.{_≡_, sym, ap, _∙_}
+use Prim.Native.Nat.{_-_, _≤_}
+use lib.ListN.{length}
+use borrow.Author.Needs.{needs}
 use Rattle.desk.proofs.text.put.Statement.{statement}
 use Rattle.desk.proofs.text.put.Tie as tie
-use Rattle.desk.proofs.text.put.Reads as reads
-use Rattle.desk.proofs.text.put.Lts as lts
-use Rattle.desk.proofs.text.put_byte.Reads as put-byte-reads
 
 abbrev Inv-loop : tie.InvT-loop
-Inv-loop line₀ end part at₀ i₀ line at i = ?
+Inv-loop line₀ end part at₀ i₀ line at i = (i ≤ length part) × (length line ≡ length line₀)
 
 abbrev μ-loop : tie.MeasureT-loop
-μ-loop line₀ end part at₀ i₀ line at i = ?
+μ-loop line₀ end part at₀ i₀ line at i = length part - i
 
--- src/text.rt:25:5
 loop-holds : tie.Need-loop-holds Inv-loop μ-loop
-loop-holds c = ?
+loop-holds c = search needs
 
--- src/text.rt:26:33
 shared-slice-read-put-byte : tie.Need-shared-slice-read-put-byte Inv-loop μ-loop
-shared-slice-read-put-byte c = ?
+shared-slice-read-put-byte c = search needs
 
--- src/text.rt:26:9
 put-byte-requires : tie.Need-put-byte-requires Inv-loop μ-loop
-put-byte-requires c κs = ?
+put-byte-requires c κs = search needs
 
--- src/text.rt:27:9
 add-i : tie.Need-add-i Inv-loop μ-loop
-add-i c = ?
+add-i c = search needs
 
--- src/text.rt:25:5
 loop-less : tie.Need-loop-less Inv-loop μ-loop
-loop-less c = ?
+loop-less c = search needs
 
--- src/text.rt:25:5
 loop-again : tie.Need-loop-again Inv-loop μ-loop
-loop-again c = ?
+loop-again c = search needs
 
--- src/text.rt:22:1
 same-length : tie.Need-same-length Inv-loop μ-loop
-same-length c = ?
+same-length c = search needs
 
--- src/text.rt:22:1
 returns : tie.Need-returns Inv-loop μ-loop
-returns c = ?
+returns c = search needs
 
 pub put-spec : {M : Type 1} → statement M
 put-spec =

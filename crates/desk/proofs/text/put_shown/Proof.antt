@@ -1,64 +1,40 @@
+-- `desk::text::put_shown` stays within its line, whose length it keeps.
+use mathlib.Core.Path.{_≡_, sym, ap, _∙_}
+use Prim.Native.Nat.{_-_, _≤_}
+use lib.ListN.{length}
+use borrow.Author.Needs.{needs}
 use Rattle.desk.proofs.text.put_shown.Statement.{statement}
 use Rattle.desk.proofs.text.put_shown.Tie as tie
-use Rattle.desk.proofs.text.put_shown.Reads as reads
-use Rattle.desk.proofs.text.put_shown.Lts as lts
-use Rattle.desk.proofs.text.is_control.Reads as is-control-reads
-use Rattle.desk.proofs.text.put_byte.Reads as put-byte-reads
-use Rattle.desk.proofs.text.put_escaped.Reads as put-escaped-reads
 
 abbrev Inv-loop : tie.InvT-loop
-Inv-loop line₀ end part at₀ i₀ line at i = ?
+Inv-loop line₀ end part at₀ i₀ line at i = (i ≤ length part) × (length line ≡ length line₀)
 
 abbrev μ-loop : tie.MeasureT-loop
-μ-loop line₀ end part at₀ i₀ line at i = ?
+μ-loop line₀ end part at₀ i₀ line at i = length part - i
 
--- src/text.rt:64:5
 loop-holds : tie.Need-loop-holds Inv-loop μ-loop
-loop-holds c = ?
+loop-holds c = search needs
 
--- src/text.rt:65:23
-shared-slice-read-is-control : tie.Need-shared-slice-read-is-control Inv-loop μ-loop
-shared-slice-read-is-control c = ?
+shared-slice-read-put-visible : tie.Need-shared-slice-read-put-visible Inv-loop μ-loop
+shared-slice-read-put-visible c = search needs
 
--- src/text.rt:65:12
-is-control-requires : tie.Need-is-control-requires Inv-loop μ-loop
-is-control-requires c κs = ?
+put-visible-requires : tie.Need-put-visible-requires Inv-loop μ-loop
+put-visible-requires c κs = search needs
 
--- src/text.rt:66:40
-shared-slice-read-put-escaped : tie.Need-shared-slice-read-put-escaped Inv-loop μ-loop
-shared-slice-read-put-escaped c = ?
-
--- src/text.rt:66:13
-put-escaped-requires : tie.Need-put-escaped-requires Inv-loop μ-loop
-put-escaped-requires c κs = ?
-
--- src/text.rt:68:37
-shared-slice-read-put-byte : tie.Need-shared-slice-read-put-byte Inv-loop μ-loop
-shared-slice-read-put-byte c = ?
-
--- src/text.rt:68:13
-put-byte-requires : tie.Need-put-byte-requires Inv-loop μ-loop
-put-byte-requires c κs = ?
-
--- src/text.rt:70:9
 add-i : tie.Need-add-i Inv-loop μ-loop
-add-i c = ?
+add-i c = search needs
 
--- src/text.rt:64:5
 loop-less : tie.Need-loop-less Inv-loop μ-loop
-loop-less c = ?
+loop-less c = search needs
 
--- src/text.rt:64:5
 loop-again : tie.Need-loop-again Inv-loop μ-loop
-loop-again c = ?
+loop-again c = search needs
 
--- src/text.rt:61:1
 same-length : tie.Need-same-length Inv-loop μ-loop
-same-length c = ?
+same-length c = search needs
 
--- src/text.rt:61:1
 returns : tie.Need-returns Inv-loop μ-loop
-returns c = ?
+returns c = search needs
 
 pub put-shown-spec : {M : Type 1} → statement M
 put-shown-spec =
@@ -67,12 +43,8 @@ put-shown-spec =
     Inv-loop
     μ-loop
     loop-holds
-    shared-slice-read-is-control
-    is-control-requires
-    shared-slice-read-put-escaped
-    put-escaped-requires
-    shared-slice-read-put-byte
-    put-byte-requires
+    shared-slice-read-put-visible
+    put-visible-requires
     add-i
     loop-less
     loop-again
