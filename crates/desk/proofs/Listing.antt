@@ -26,7 +26,7 @@ first-line [] l = absurd (not-suc-le-zero l)
 first-line (x ∷ []) l = test (eqb x lineFeed) (λ e. rw e) (λ e. rw e)
 first-line (x ∷ y ∷ ys) l =
     let rest : linesOf (y ∷ ys) ≡ take (ahead lineFeed (y ∷ ys)) (y ∷ ys) ∷ linesOf (drop (suc (ahead lineFeed (y ∷ ys))) (y ∷ ys)) =
-      first-line (y ∷ ys) (omega arith) in
+    first-line (y ∷ ys) (omega arith) in
     test (eqb x lineFeed) (λ e. rw e) (λ e. rw e (ap (onFirst x) rest))
 
 -- the lines from a place on: the one up to its end, and those behind that
@@ -60,7 +60,7 @@ unfolding joined endsFrom
 ends-one a [] r = let e : a + length (r .code) ≡ a + 0 + length (r .code) = omega arith in rw (← e)
 ends-one a (q ∷ rs) r =
     let e : a + length (q .code) + length (joined rs) + length (r .code) ≡ a + length (q .code ++ joined rs) + length (r .code) =
-      omega (arith, length-append (q .code) (joined rs)) in
+    omega (arith, length-append (q .code) (joined rs)) in
     rw (ends-one (a + length (q .code)) rs r, e)
 
 values-one : (rs : List Listed) (r : Listed) → valuesOf (rs ++ (r ∷ [])) ≡ valuesOf rs ++ (r .value ∷ [])
@@ -84,8 +84,8 @@ module _ (rs : List Listed) (r : Listed) (count end : ℕ) (bytes more ends valu
         sized = ap length (joined-one rs r) ∙ length-append (joined rs) (r .code) ∙ ap (λ (k : ℕ). k + length (r .code)) (h .sized) ∙ sym e;
         bytes-are = b ∙ ap (λ (s : List ℕ). s ++ r .code) (h .bytes-are) ∙ sym (joined-one rs r);
         ends-are =
-          let t : 0 + length (joined rs) + length (r .code) ≡ end' = omega (arith, h .sized) in
-          rw (add-one count, take-suc-set ends count end' m, ends-one 0 rs r, t) (ap (λ (s : List ℕ). s ++ (end' ∷ [])) (h .ends-are));
+            let t : 0 + length (joined rs) + length (r .code) ≡ end' = omega (arith, h .sized) in
+            rw (add-one count, take-suc-set ends count end' m, ends-one 0 rs r, t) (ap (λ (s : List ℕ). s ++ (end' ∷ [])) (h .ends-are));
         values-are = rw (add-one count, take-suc-set values count (r .value) n, values-one rs r) (ap (λ (s : List ℕ). s ++ (r .value ∷ [])) (h .values-are));
         marks-are = rw (add-one count, take-suc-set marks count (r .mark) o, marks-one rs r) (ap (λ (s : List ℕ). s ++ (r .mark ∷ [])) (h .marks-are));
       }
@@ -142,10 +142,22 @@ module _ (room : ℕ) (file : List ℕ) (at count end : ℕ) (bytes ends values 
       record {
         done = r .done ++ (row ∷ []);
         says =
-          rw (add-one count)
-          (after-one (r .done) row (listing room (suc count) (linesOf (drop (stop + 1) file))) ∙ rw (lines-from file at stop l e, lt-leb room count m, n) at (r .says));
+            rw (add-one count)
+            (after-one (r .done) row (listing room (suc count) (linesOf (drop (stop + 1) file))) ∙ rw (lines-from file at stop l e, lt-leb room count m, n) at (r .says));
         held = held-one (r .done) row count end bytes more ends values marks (r .held) end' p b x y z;
         fewer = omega (arith, r .fewer);
         shorter = omega (arith, r .shorter);
         within = omega arith;
       }
+
+-- ---- the answer for a line, taken apart
+
+pub inside-code : (at stop : ℕ) (r : Line) (m v from to : ℕ) → Inside at stop r → r ≡ line.Code m v from to → (at ≤ from) × (from ≤ to) × (to ≤ stop)
+inside-code at stop r m v from to i e = subst (λ (x : Line). Inside at stop x) e i
+
+pub told-code : (file : List ℕ) (r : Line) (m v from to : ℕ) (said : Option Listed) → lineTold file r ≡ said → r ≡ line.Code m v from to
+    → said ≡ some (record { mark = m; value = v; code = take (to - from) (drop from file) })
+told-code file r m v from to said t e = sym t ∙ ap (lineTold file) e
+
+pub told-bad : (file : List ℕ) (r : Line) (said : Option Listed) → lineTold file r ≡ said → r ≡ line.BadValue → said ≡ none
+told-bad file r said t e = sym t ∙ ap (lineTold file) e

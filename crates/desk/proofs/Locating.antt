@@ -57,8 +57,8 @@ module _ (sheet : List ℕ) (p : Place) (b : ℕ) (r : Right sheet p) (n : Next 
       record {
         inside = omega (arith, n .there);
         line-is =
-          rw (t, feeds-last 0 (take (p .at) sheet) (getD sheet (p .at) 0), eq-eqb (getD sheet (p .at) 0) lineFeed f)
-          (add-one (p .line) ∙ ap suc (r .line-is));
+            rw (t, feeds-last 0 (take (p .at) sheet) (getD sheet (p .at) 0), eq-eqb (getD sheet (p .at) 0) lineFeed f)
+            (add-one (p .line) ∙ ap suc (r .line-is));
         column-is = rw (t, since-last 0 (take (p .at) sheet) (getD sheet (p .at) 0), eq-eqb (getD sheet (p .at) 0) lineFeed f);
       }
 
@@ -70,6 +70,6 @@ module _ (sheet : List ℕ) (p : Place) (b : ℕ) (r : Right sheet p) (n : Next 
         inside = omega (arith, n .there);
         line-is = rw (t, feeds-last 0 (take (p .at) sheet) (getD sheet (p .at) 0), ne-eqb (getD sheet (p .at) 0) lineFeed f) (r .line-is);
         column-is =
-          rw (t, since-last 0 (take (p .at) sheet) (getD sheet (p .at) 0), ne-eqb (getD sheet (p .at) 0) lineFeed f)
-          (add-one (p .column) ∙ ap suc (r .column-is));
+            rw (t, since-last 0 (take (p .at) sheet) (getD sheet (p .at) 0), ne-eqb (getD sheet (p .at) 0) lineFeed f)
+            (add-one (p .column) ∙ ap suc (r .column-is));
       }

@@ -90,3 +90,18 @@ module _ (file : List ℕ) (at stop size : ℕ) (low : at ≤ stop) (high : stop
       let s : at + size - at ≡ from + (size - from) = omega arith in
       let r : at + size - (at + from) ≡ size - from = omega arith in
       rw (s, r, drop-take from (size - from) (drop at file) (omega (arith, length-drop at file)), drop-drop from at file)
+
+  -- ---- the answer for the bare line, as one for the file
+
+  module _ (k : ℕ) (e : size ≡ bareLength (take (stop - at) (drop at file))) (l : size ≤ length (take (stop - at) (drop at file))) (r : Row)
+      (told : rowTold (take (at + size - at) (drop at file)) r ≡ rowOf k (take (at + size - at) (drop at file))) where
+    pub row-in-file : (m v from : ℕ) → r ≡ Code m v from → from ≤ size → at + size ≤ stop
+        → some (record { mark = m; value = v; code = take (at + size - (at + from)) (drop (at + from) file) }) ≡ rowOf k (bare (take (stop - at) (drop at file)))
+    row-in-file m v from q f g =
+        ap (λ (c : List ℕ). some (record { mark = m; value = v; code = c })) (code-part from f g)
+        ∙ ap (rowTold (take (at + size - at) (drop at file))) (sym q)
+        ∙ told
+        ∙ ap (rowOf k) (bare-part e l)
+
+    pub bad-in-file : r ≡ BadValue → none ≡ rowOf k (bare (take (stop - at) (drop at file)))
+    bad-in-file q = ap (rowTold (take (at + size - at) (drop at file))) (sym q) ∙ told ∙ ap (rowOf k) (bare-part e l)

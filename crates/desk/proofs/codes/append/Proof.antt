@@ -35,7 +35,7 @@ loop-less : tie.Need-loop-less Inv-loop μ-loop
 loop-less c = search needs
 
 loop-again : tie.Need-loop-again Inv-loop μ-loop
-loop-again c = 
+loop-again c =
     let start = c .before .before .before in
     let turn = c .before .before .loop in (
       omega arith,

@@ -23,7 +23,7 @@ loop-holds : tie.Need-loop-holds Inv-loop μ-loop
 loop-holds c = (omega arith, λ s. refl)
 
 returns : tie.Need-returns Inv-loop μ-loop
-returns c = 
+returns c =
     let start = c .before .before .before .before .before .before .before in
     let turn = c .before .before .loop in
     let ps = patternsOf (start .args .bytes .now) (start .args .ends .now) in
@@ -33,13 +33,13 @@ row-warns-requires : tie.Need-row-warns-requires Inv-loop μ-loop
 row-warns-requires c κs = search needs
 
 returns-2 : tie.Need-returns-2 Inv-loop μ-loop
-returns-2 c = 
+returns-2 c =
     let start = c .before .before .before .before .before .before .before .before .before in
     let turn = c .before .before .before .before .loop in
     let ps = patternsOf (start .args .bytes .now) (start .args .ends .now) in
     let count = patterns-length (start .args .bytes .now) (start .args .ends .now) in
     λ s. sym (hazard-here ps (start .args .marks .now) (start .args .code .now) (turn .i) (omega (arith, count)) (omega arith) (sym (c .before .row-warns .ensures s) ∙ c .if2 .taken))
-      ∙ turn .inv .1 s
+    ∙ turn .inv .1 s
 
 add-i : tie.Need-add-i Inv-loop μ-loop
 add-i c = search needs
@@ -48,18 +48,18 @@ loop-less : tie.Need-loop-less Inv-loop μ-loop
 loop-less c = search needs
 
 loop-again : tie.Need-loop-again Inv-loop μ-loop
-loop-again c = 
+loop-again c =
     let start = c .before .before .before .before .before .before .before .before .before in
     let turn = c .before .before .before .before .loop in
     let ps = patternsOf (start .args .bytes .now) (start .args .ends .now) in
     let count = patterns-length (start .args .bytes .now) (start .args .ends .now) in (
       omega arith,
       λ s. hazard-next ps (start .args .marks .now) (start .args .code .now) (turn .i) (omega (arith, count)) (omega arith) (sym (c .before .row-warns .ensures s) ∙ c .if2 .left)
-        ∙ turn .inv .1 s,
+          ∙ turn .inv .1 s,
     )
 
 returns-3 : tie.Need-returns-3 Inv-loop μ-loop
-returns-3 c = 
+returns-3 c =
     let start = c .before .before .before .before .before .before in
     let turn = c .before .loop in
     let ps = patternsOf (start .args .bytes .now) (start .args .ends .now) in

@@ -22,27 +22,33 @@ same-bytes-requires : tie.Need-same-bytes-requires
 same-bytes-requires c κs = search needs
 
 returns : tie.Need-returns
-returns c = 
+returns c =
     let start = c .before .before .before .before .before .before .before .before .before in
     λ s. c .same-bytes .ensures
-      ∙ row-part (start .args .bytes .now) (start .args .ends .now) (start .args .code .now) (start .args .i) (c .before .before .before .before .before .pattern-start .result)
-      (c .before .before .before .before .pattern-end .result) (c .before .before .before .before .before .pattern-start .ensures) (c .before .before .before .before .pattern-end .ensures) (start .pre) s
+    ∙ row-part (start .args .bytes .now) (start .args .ends .now) (start .args .code .now) (start .args .i) (c .before .before .before .before .before .pattern-start .result)
+    (c .before .before .before .before .pattern-end .result) (c .before .before .before .before .before .pattern-start .ensures) (c .before .before .before .before .pattern-end .ensures) (start .pre) s
 
 returns-2 : tie.Need-returns-2
-returns-2 c = 
+returns-2 c =
     let start = c .before .before .before .before .before .before .before in
     λ s. absurd
-      (omega
-      (arith, row-within (start .args .bytes .now) (start .args .ends .now) (start .args .code .now) (start .args .i) (c .before .before .before .pattern-start .result)
-      (c .before .before .pattern-end .result) (c .before .before .before .pattern-start .ensures) (c .before .before .pattern-end .ensures) (start .pre) s, c .if2 .left))
+    (omega (
+      arith,
+      row-within (start .args .bytes .now) (start .args .ends .now) (start .args .code .now) (start .args .i) (c .before .before .before .pattern-start .result)
+          (c .before .before .pattern-end .result) (c .before .before .before .pattern-start .ensures) (c .before .before .pattern-end .ensures) (start .pre) s,
+      c .if2 .left,
+    ))
 
 returns-3 : tie.Need-returns-3
-returns-3 c = 
+returns-3 c =
     let start = c .before .before .before .before .before .before in
     λ s. absurd
-      (omega
-      (arith, row-ordered (start .args .bytes .now) (start .args .ends .now) (start .args .code .now) (start .args .i) (c .before .before .pattern-start .result)
-      (c .before .pattern-end .result) (c .before .before .pattern-start .ensures) (c .before .pattern-end .ensures) (start .pre) s, c .if1 .left))
+    (omega (
+      arith,
+      row-ordered (start .args .bytes .now) (start .args .ends .now) (start .args .code .now) (start .args .i) (c .before .before .pattern-start .result)
+          (c .before .pattern-end .result) (c .before .before .pattern-start .ensures) (c .before .pattern-end .ensures) (start .pre) s,
+      c .if1 .left,
+    ))
 
 pub row-has-spec : {M : Type 1} → statement M
 row-has-spec =

@@ -10,7 +10,7 @@ shared-slice-read-if1 : tie.Need-shared-slice-read-if1
 shared-slice-read-if1 c = search needs
 
 returns : tie.Need-returns
-returns c = 
+returns c =
     let start = c .before .before .before .before .before .before in
     λ s. rw (ne-eqb (getD (start .args .marks .now) (start .args .i) 0) 1 (c .if1 .taken))
 
@@ -18,7 +18,7 @@ row-has-requires : tie.Need-row-has-requires
 row-has-requires c κs = search needs
 
 returns-2 : tie.Need-returns-2
-returns-2 c = 
+returns-2 c =
     let start = c .before .before .before .before .before .before .before in
     λ s. rw (eq-eqb (getD (start .args .marks .now) (start .args .i) 0) 1 (c .before .if1 .left)) (c .row-has .ensures s)
 

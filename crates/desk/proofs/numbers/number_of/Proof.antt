@@ -35,24 +35,24 @@ wide-requires : tie.Need-wide-requires Inv-loop μ-loop
 wide-requires c κs = search needs
 
 sub-number : tie.Need-sub-number Inv-loop μ-loop
-sub-number c = 
+sub-number c =
     let byte = getD (c .before .before .before .before .before .before .before .before .args .digits .now) (c .before .before .before .before .before .loop .i) 0 in
     omega (arith, digit-least byte (sym (c .before .before .is-digit .ensures) ∙ c .before .if2 .taken), c .wide .ensures)
 
 add-number : tie.Need-add-number Inv-loop μ-loop
-add-number c = 
+add-number c =
     let byte = getD (c .before .before .before .before .before .before .before .before .args .digits .now) (c .before .before .before .before .before .loop .i) 0 in
     omega (arith, digit-most byte (sym (c .before .before .is-digit .ensures) ∙ c .before .if2 .taken), c .wide .ensures)
 
 returns-2 : tie.Need-returns-2 Inv-loop μ-loop
-returns-2 c = 
+returns-2 c =
     let start = c .before .before .before .before .before .before .before in
     let turn = c .before .before .before .before .loop in
     no-digits (start .args .digits .now)
     (sym (turn .inv .2) ∙ digits-not (start .args .digits .now) (turn .i) (omega arith) (sym (c .before .is-digit .ensures) ∙ c .if2 .left))
 
 returns-3 : tie.Need-returns-3 Inv-loop μ-loop
-returns-3 c = 
+returns-3 c =
     let start = c .before .before .before .before .before .before .before .before .before in
     let turn = c .before .before .before .before .before .before .loop in
     grown-large (start .args .digits .now) (turn .i) (turn .number) (omega arith) (c .before .wide .result) (c .before .wide .ensures) (turn .inv .3) (c .if3 .taken)
@@ -64,7 +64,7 @@ loop-less : tie.Need-loop-less Inv-loop μ-loop
 loop-less c = search needs
 
 loop-again : tie.Need-loop-again Inv-loop μ-loop
-loop-again c = 
+loop-again c =
     let start = c .before .before .before .before .before .before .before .before .before in
     let turn = c .before .before .before .before .before .before .loop in (
       omega arith,
@@ -77,7 +77,7 @@ cast-t15 : tie.Need-cast-t15 Inv-loop μ-loop
 cast-t15 c = search needs
 
 returns-4 : tie.Need-returns-4 Inv-loop μ-loop
-returns-4 c = 
+returns-4 c =
     let start = c .before .before .before .before in
     let turn = c .before .loop in
     a-number (start .args .digits .now) (turn .number) (c .before .before .if1 .left)

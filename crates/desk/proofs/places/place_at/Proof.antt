@@ -10,7 +10,7 @@ least-requires : tie.Need-least-requires
 least-requires c κs = search needs
 
 advance-requires : tie.Need-advance-requires
-advance-requires c κs = 
+advance-requires c κs =
     let start = c .before .before .before .before in
     (start .pre, (omega arith, omega (arith, c .before .before .least .ensures, smaller-right (start .args .at) (length (start .args .sheet .now)))))
 
@@ -21,7 +21,7 @@ first-place-requires : tie.Need-first-place-requires
 first-place-requires c κs = search needs
 
 advance-requires-2 : tie.Need-advance-requires-2
-advance-requires-2 c κs = 
+advance-requires-2 c κs =
     let start = c .before .before .before .before .before in
     (c .first-place .ensures .0 _, (omega (arith, c .first-place .ensures .1), omega (arith, c .before .before .before .least .ensures, smaller-right (start .args .at) (length (start .args .sheet .now)))))
 

@@ -19,13 +19,13 @@ with-mark-requires : tie.Need-with-mark-requires
 with-mark-requires c κs = search needs
 
 returns-2 : tie.Need-returns-2
-returns-2 c = 
+returns-2 c =
     let start = c .before .before .before .before .before .before in
     c .with-mark .ensures ∙ ap (marked 0) (c .before .number-of .ensures)
     ∙ head-plain (start .args .number) (start .args .head .now) (c .before .before .before .before .if1 .left) (c .before .before .if2 .taken)
 
 returns-3 : tie.Need-returns-3
-returns-3 c = 
+returns-3 c =
     let start = c .before .before .before .before .before in
     head-mark (start .args .number) (start .args .head .now) (c .before .if2 .left) (c .if3 .taken)
 
@@ -45,7 +45,7 @@ with-mark-requires-2 : tie.Need-with-mark-requires-2
 with-mark-requires-2 c κs = search needs
 
 returns-4 : tie.Need-returns-4
-returns-4 c = 
+returns-4 c =
     let start = c .before .before .before .before .before .before .before .before in
     c .with-mark2 .ensures ∙ ap (marked 1) (c .before .number-of2 .ensures)
     ∙ head-valued (start .args .number) (start .args .head .now) (c .before .before .before .before .before .before .if1 .left) (c .before .before .before .before .if2 .left)

@@ -33,7 +33,7 @@ enum-told : tie.Need-enum-told
 enum-told c = search needs
 
 returns-2 : tie.Need-returns-2
-returns-2 c = 
+returns-2 c =
     let start = c .before .before .before .before .before .before .before .before in
     let line = start .args .line .now in
     let tab = c .before .before .before .before .before .before .count-ahead in (
@@ -44,7 +44,7 @@ returns-2 c =
     )
 
 returns-3 : tie.Need-returns-3
-returns-3 c = 
+returns-3 c =
     let start = c .before .before .before .before .before .before .before in
     let line = start .args .line .now in
     let tab = c .before .before .before .before .before .count-ahead in (

@@ -22,7 +22,7 @@ shared-slice-read-if1 : tie.Need-shared-slice-read-if1 Inv-loop μ-loop
 shared-slice-read-if1 c = search needs
 
 returns : tie.Need-returns Inv-loop μ-loop
-returns c = 
+returns c =
     let start = c .before .before .before .before in
     let turn = c .before .before .before .loop in
     (omega (arith, ahead-here (start .args .byte) (start .args .bytes .now) (turn .i) (omega arith) (c .if1 .taken)), omega arith)
@@ -34,13 +34,13 @@ loop-less : tie.Need-loop-less Inv-loop μ-loop
 loop-less c = search needs
 
 loop-again : tie.Need-loop-again Inv-loop μ-loop
-loop-again c = 
+loop-again c =
     let start = c .before .before .before .before in
     let turn = c .before .before .before .loop in
     (omega arith, omega (arith, ahead-next (start .args .byte) (start .args .bytes .now) (turn .i) (omega arith) (c .if1 .left)))
 
 returns-2 : tie.Need-returns-2 Inv-loop μ-loop
-returns-2 c = 
+returns-2 c =
     let start = c .before .before in
     let turn = c .before .loop in
     (omega (arith, ahead-none (start .args .byte) (start .args .bytes .now) (turn .i) (omega arith)), omega arith)

@@ -28,7 +28,7 @@ shared-slice-read-if2-2 : tie.Need-shared-slice-read-if2-2 Inv-loop μ-loop
 shared-slice-read-if2-2 c = search needs
 
 returns-2 : tie.Need-returns-2 Inv-loop μ-loop
-returns-2 c = 
+returns-2 c =
     let start = c .before .before .before .before .before .before in
     let turn = c .before .before .before .before .loop in
     sym (same-not (start .args .one .now) (start .args .other .now) (turn .i) (omega arith) (omega arith) (c .if2 .taken)) ∙ turn .inv .1
@@ -40,13 +40,13 @@ loop-less : tie.Need-loop-less Inv-loop μ-loop
 loop-less c = search needs
 
 loop-again : tie.Need-loop-again Inv-loop μ-loop
-loop-again c = 
+loop-again c =
     let start = c .before .before .before .before .before .before in
     let turn = c .before .before .before .before .loop in
     (omega arith, same-next (start .args .one .now) (start .args .other .now) (turn .i) (omega arith) (omega arith) (c .if2 .left) ∙ turn .inv .1)
 
 returns-3 : tie.Need-returns-3 Inv-loop μ-loop
-returns-3 c = 
+returns-3 c =
     let start = c .before .before .before in
     let turn = c .before .loop in
     sym (same-all (start .args .one .now) (start .args .other .now) (turn .i) (omega arith) (omega arith)) ∙ turn .inv .1
