@@ -7,10 +7,14 @@ pub(crate) const OUT: i32 = 1;
 
 pub(crate) const ERRORS: i32 = 2;
 
-// Whether the first bytes of a line were written.
-pub(crate) fn write_line(stream: i32, line: &[u8; LINE], size: usize) -> bool {
-    if size <= LINE {
-        return io::write_all(stream, &line[..size]);
+fn write_part(stream: i32, line: &[u8], size: usize) -> bool {
+    if size <= line.len() {
+        return io::write_all(stream, &line[0..size]);
     }
     false
+}
+
+// Whether the first bytes of a line were written.
+pub(crate) fn write_line(stream: i32, line: &[u8; LINE], size: usize) -> bool {
+    write_part(stream, line, size)
 }

@@ -57,10 +57,14 @@ pub(crate) fn tell_failed(name: &[u8]) {
     fail_line(&line, named);
 }
 
-fn fail_line(line: &[u8; LINE], size: usize) {
-    if size <= LINE {
-        os::fail(&line[..size]);
+fn fail_part(what: &[u8], size: usize) {
+    if size <= what.len() {
+        os::fail(&what[0..size]);
     }
+}
+
+fn fail_line(line: &[u8; LINE], size: usize) {
+    fail_part(line, size);
 }
 
 // About a whole file.

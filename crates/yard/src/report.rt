@@ -209,6 +209,24 @@ fn write_found(
     write_line(OUT, line, last)
 }
 
+// A match of the other sort is passed over.
+fn write_wanted(
+    line: &mut [u8; LINE],
+    hazards: bool,
+    hazard: bool,
+    sheet: &[u8],
+    found: Match,
+    near: Place,
+) -> bool
+    requires { ⌜ Right (now sheet) near ⌝ }
+{
+    if hazard != hazards {
+        return true;
+    }
+    let place = place_at(sheet, near, found.start);
+    write_found(line, hazard, sheet, found, place)
+}
+
 // The hazards, or the others, in the order of the search. `near` is a place before which no later match begins.
 fn print_sort(
     hazards: bool,
@@ -243,11 +261,9 @@ fn print_sort(
         ) {
             Answer::Match(found, next) => {
                 near = follow(sheet, near, found.end);
-                if hazard_at(bytes, ends, marks, sheet, found.start, found.end) == hazards {
-                    let place = place_at(sheet, near, found.start);
-                    if !write_found(&mut line, hazards, sheet, found, place) {
-                        return Outcome::Unwritten;
-                    }
+                let hazard = hazard_at(bytes, ends, marks, sheet, found.start, found.end);
+                if !write_wanted(&mut line, hazards, hazard, sheet, found, near) {
+                    return Outcome::Unwritten;
                 }
                 at = next;
             }

@@ -123,10 +123,10 @@ fn build_rows(
                         numbers,
                         list_name,
                         sheet_name,
-                        &bytes[..end],
-                        &ends[..count],
-                        &values[..count],
-                        &marks[..count],
+                        &bytes[0..end],
+                        &ends[0..count],
+                        &values[0..count],
+                        &marks[0..count],
                         sheet,
                     );
                 }
@@ -165,17 +165,20 @@ fn work(way: Way, numbers: bool, list_name: &[u8], sheet_name: &[u8], list: &[u8
     }
 }
 
-fn read_sheet(way: Way, numbers: bool, list_name: &[u8], sheet_name: &[u8], list: &[u8])
+// The sheet is the first bytes of what was lent.
+fn work_part(
+    way: Way,
+    numbers: bool,
+    list_name: &[u8],
+    sheet_name: &[u8],
+    list: &[u8],
+    sheet: &[u8],
+    size: usize,
+)
     requires { ⌜ length (now list) ≤ 131072 ⌝ }
 {
-    let mut sheet = [0u8; SHEET];
-    match read_file(sheet_name, &mut sheet) {
-        File::Read(size) => work_on(way, numbers, list_name, sheet_name, list, &sheet, size),
-        File::Full => tell_file(
-            sheet_name,
-            b"refusal 10: the sheet is longer than 65536 bytes",
-        ),
-        File::Failed => tell_failed(sheet_name),
+    if size <= sheet.len() {
+        work(way, numbers, list_name, sheet_name, list, &sheet[0..size]);
     }
 }
 
@@ -190,8 +193,36 @@ fn work_on(
 )
     requires { ⌜ length (now list) ≤ 131072 ⌝ }
 {
-    if size <= SHEET {
-        work(way, numbers, list_name, sheet_name, list, &sheet[..size]);
+    work_part(way, numbers, list_name, sheet_name, list, sheet, size);
+}
+
+fn read_sheet(way: Way, numbers: bool, list_name: &[u8], sheet_name: &[u8], list: &[u8])
+    requires { ⌜ length (now list) ≤ 131072 ⌝ }
+{
+    let mut sheet = [0u8; SHEET];
+    match read_file(sheet_name, &mut sheet) {
+        File::Read(size) => work_on(way, numbers, list_name, sheet_name, list, &sheet, size),
+        File::Full => tell_file(
+            sheet_name,
+            b"refusal 10: the sheet is longer than 65536 bytes",
+        ),
+        File::Failed => tell_failed(sheet_name),
+    }
+}
+
+// The list is the first bytes of what was lent.
+fn list_part(
+    way: Way,
+    numbers: bool,
+    list_name: &[u8],
+    sheet_name: &[u8],
+    list: &[u8],
+    size: usize,
+) {
+    if size <= list.len() {
+        if size <= LIST {
+            read_sheet(way, numbers, list_name, sheet_name, &list[0..size]);
+        }
     }
 }
 
@@ -203,9 +234,7 @@ fn with_list(
     list: &[u8; LIST],
     size: usize,
 ) {
-    if size <= LIST {
-        read_sheet(way, numbers, list_name, sheet_name, &list[..size]);
-    }
+    list_part(way, numbers, list_name, sheet_name, list, size);
 }
 
 fn read_list(way: Way, numbers: bool, list_name: &[u8], sheet_name: &[u8]) {
@@ -217,6 +246,22 @@ fn read_list(way: Way, numbers: bool, list_name: &[u8], sheet_name: &[u8]) {
     }
 }
 
+// The names are the first bytes of what was lent.
+fn run_names(
+    way: Way,
+    numbers: bool,
+    list: &[u8],
+    list_size: usize,
+    sheet: &[u8],
+    sheet_size: usize,
+) {
+    if list_size <= list.len() {
+        if sheet_size <= sheet.len() {
+            read_list(way, numbers, &list[0..list_size], &sheet[0..sheet_size]);
+        }
+    }
+}
+
 pub(crate) fn run(
     way: Way,
     numbers: bool,
@@ -225,9 +270,5 @@ pub(crate) fn run(
     sheet: &[u8; NAME],
     sheet_size: usize,
 ) {
-    if list_size <= NAME {
-        if sheet_size <= NAME {
-            read_list(way, numbers, &list[..list_size], &sheet[..sheet_size]);
-        }
-    }
+    run_names(way, numbers, list, list_size, sheet, sheet_size);
 }
