@@ -4,3 +4,4 @@ pub mod Rowing
 pub mod Locating
 pub mod Warning
 pub mod Listing
+pub mod Claims

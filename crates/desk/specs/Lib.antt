@@ -4,3 +4,4 @@ pub mod Rows
 pub mod Codes
 pub mod Places
 pub mod Hazards
+pub mod Claims
