@@ -90,6 +90,18 @@ module _ (rs : List Listed) (r : Listed) (count end : ℕ) (bytes more ends valu
         marks-are = rw (add-one count, take-suc-set marks count (r .mark) o, marks-one rs r) (ap (λ (s : List ℕ). s ++ (r .mark ∷ [])) (h .marks-are));
       }
 
+-- ---- the answer for a line, taken apart
+
+pub inside-code : (at stop : ℕ) (r : Line) (m v from to : ℕ) → Inside at stop r → r ≡ line.Code m v from to → (at ≤ from) × (from ≤ to) × (to ≤ stop)
+inside-code at stop r m v from to i e = subst (λ (x : Line). Inside at stop x) e i
+
+told-code : (file : List ℕ) (r : Line) (m v from to : ℕ) (said : Option Listed) → lineTold file r ≡ said → r ≡ line.Code m v from to
+    → said ≡ some (record { mark = m; value = v; code = take (to - from) (drop from file) })
+told-code file r m v from to said t e = sym t ∙ ap (lineTold file) e
+
+told-bad : (file : List ℕ) (r : Line) (said : Option Listed) → lineTold file r ≡ said → r ≡ line.BadValue → said ≡ none
+told-bad file r said t e = sym t ∙ ap (lineTold file) e
+
 -- ---- the loop
 
 -- so far: the lines before `at` gave rows, which the tables hold; and what they and the lines that are left say is what the list says
@@ -127,18 +139,21 @@ module _ (room : ℕ) (file : List ℕ) (at count end : ℕ) (bytes ends values 
   unfolding listing
   full l stop e m = sym (rw (lines-from file at stop l e, le-leb room count m) at (r .says))
 
-  pub bad-line : at < length file → (stop : ℕ) → stop ≡ lineEnd file at → count < room → rowOf count (bare (take (stop - at) (drop at file))) ≡ none
+  pub bad-line : at < length file → (stop : ℕ) → stop ≡ lineEnd file at → count < room
+      → (answer : Line) → lineTold file answer ≡ rowOf count (bare (take (stop - at) (drop at file))) → answer ≡ line.BadValue
       → codes room file ≡ badValue count
   unfolding listing
-  bad-line l stop e m n = sym (rw (lines-from file at stop l e, lt-leb room count m, n) at (r .says))
+  bad-line l stop e m answer t q =
+      let n : rowOf count (bare (take (stop - at) (drop at file))) ≡ none = told-bad file answer (rowOf count (bare (take (stop - at) (drop at file)))) t q in
+      sym (rw (lines-from file at stop l e, lt-leb room count m, n) at (r .says))
 
-  pub one-more : at < length file → (stop : ℕ) → stop ≡ lineEnd file at → stop ≤ length file → count < room
+  one-row-more : at < length file → (stop : ℕ) → stop ≡ lineEnd file at → stop ≤ length file → count < room
       → (row : Listed) → rowOf count (bare (take (stop - at) (drop at file))) ≡ some row → length (row .code) ≤ stop - at
       → (end' : ℕ) (more : List ℕ) → end' ≡ end + length (row .code) → take end' more ≡ take end bytes ++ row .code
       → count < length ends → count < length values → count < length marks
       → Reading room file (stop + 1) (count + 1) end' more (set ends count end') (set values count (row .value)) (set marks count (row .mark))
   unfolding listing
-  one-more l stop e i m row n s end' more p b x y z =
+  one-row-more l stop e i m row n s end' more p b x y z =
       record {
         done = r .done ++ (row ∷ []);
         says =
@@ -150,14 +165,13 @@ module _ (room : ℕ) (file : List ℕ) (at count end : ℕ) (bytes ends values 
         within = omega arith;
       }
 
--- ---- the answer for a line, taken apart
-
-pub inside-code : (at stop : ℕ) (r : Line) (m v from to : ℕ) → Inside at stop r → r ≡ line.Code m v from to → (at ≤ from) × (from ≤ to) × (to ≤ stop)
-inside-code at stop r m v from to i e = subst (λ (x : Line). Inside at stop x) e i
-
-pub told-code : (file : List ℕ) (r : Line) (m v from to : ℕ) (said : Option Listed) → lineTold file r ≡ said → r ≡ line.Code m v from to
-    → said ≡ some (record { mark = m; value = v; code = take (to - from) (drop from file) })
-told-code file r m v from to said t e = sym t ∙ ap (lineTold file) e
-
-pub told-bad : (file : List ℕ) (r : Line) (said : Option Listed) → lineTold file r ≡ said → r ≡ line.BadValue → said ≡ none
-told-bad file r said t e = sym t ∙ ap (lineTold file) e
+  -- the same, by the answer for the line
+  pub one-more : at < length file → (stop : ℕ) → stop ≡ lineEnd file at → stop ≤ length file → count < room
+      → (answer : Line) (mark value from to : ℕ) → lineTold file answer ≡ rowOf count (bare (take (stop - at) (drop at file)))
+      → answer ≡ line.Code mark value from to → length (take (to - from) (drop from file)) ≤ stop - at
+      → (end' : ℕ) (more : List ℕ) → end' ≡ end + length (take (to - from) (drop from file)) → take end' more ≡ take end bytes ++ take (to - from) (drop from file)
+      → count < length ends → count < length values → count < length marks
+      → Reading room file (stop + 1) (count + 1) end' more (set ends count end') (set values count value) (set marks count mark)
+  one-more l stop e i m answer mark value from to t q s end' more p b x y z =
+      one-row-more l stop e i m (record { mark = mark; value = value; code = take (to - from) (drop from file) })
+      (told-code file answer mark value from to (rowOf count (bare (take (stop - at) (drop at file)))) t q) s end' more p b x y z

@@ -29,15 +29,15 @@ module _ (bytes ends code : List ℕ) (i start end : ℕ) (s : start ≡ startOf
 -- ---- the rows that are left from i on
 
 module _ (ps : List (List ℕ)) (marks code : List ℕ) (i : ℕ) where
-  pub hazard-here : i < length ps → i < length marks → (eqb (getD marks i 0) 1 && same (getD ps i []) code) ≡ true
+  pub hazard-here : i < length ps → i < length marks → (w : Bool) → w ≡ (eqb (getD marks i 0) 1 && same (getD ps i []) code) → w ≡ true
       → hazard (drop i ps) (drop i marks) code ≡ true
   unfolding hazard
-  hazard-here l m e = rw (drop-cons ps i [] l, drop-cons marks i 0 m, e)
+  hazard-here l m w e t = rw (drop-cons ps i [] l, drop-cons marks i 0 m, ← e, t)
 
-  pub hazard-next : i < length ps → i < length marks → (eqb (getD marks i 0) 1 && same (getD ps i []) code) ≡ false
+  pub hazard-next : i < length ps → i < length marks → (w : Bool) → w ≡ (eqb (getD marks i 0) 1 && same (getD ps i []) code) → w ≡ false
       → hazard (drop (i + 1) ps) (drop (i + 1) marks) code ≡ hazard (drop i ps) (drop i marks) code
   unfolding hazard
-  hazard-next l m e = rw (add-one i, drop-cons ps i [] l, drop-cons marks i 0 m, e)
+  hazard-next l m w e t = rw (add-one i, drop-cons ps i [] l, drop-cons marks i 0 m, ← e, t)
 
   pub hazard-ends : length ps ≤ i → hazard (drop i ps) (drop i marks) code ≡ false
   unfolding hazard

@@ -202,10 +202,8 @@ fn read_sheet(way: Way, numbers: bool, list_name: &[u8], sheet_name: &[u8], list
     let mut sheet = [0u8; SHEET];
     match read_file(sheet_name, &mut sheet) {
         File::Read(size) => work_on(way, numbers, list_name, sheet_name, list, &sheet, size),
-        File::Full => tell_file(
-            sheet_name,
-            b"refusal 10: the sheet is longer than 65536 bytes",
-        ),
+        // The search refuses it, after the refusals of the list.
+        File::Full => work_on(way, numbers, list_name, sheet_name, list, &sheet, SHEET),
         File::Failed => tell_failed(sheet_name),
     }
 }

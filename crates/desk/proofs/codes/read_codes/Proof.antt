@@ -4,7 +4,7 @@ use Prim.Native.Nat.{ℕ, suc, _+_, _-_, _≤_, _<_}
 use lib.ListN.{length, take, drop, length-set}
 use Rattle.desk.specs.Stretches.{lineEnd}
 use Rattle.desk.proofs.Rowing.{part-length}
-use Rattle.desk.proofs.Listing.{Reading, begun, all-read, full, bad-line, one-more, inside-code, told-code, told-bad}
+use Rattle.desk.proofs.Listing.{Reading, begun, all-read, full, bad-line, one-more, inside-code}
 use borrow.Author.Needs.{needs}
 use native.Mathlib.Omega.{arith}
 use Rattle.desk.proofs.codes.read_codes.Statement.{statement}
@@ -76,7 +76,7 @@ returns-2 c =
     let stop = c .before .before .before .line-end in
     let row = c .before .before .read-line in
     bad-line _ _ _ _ _ _ _ _ _ (turn .inv .0) (omega arith) (stop .result) (stop .ensures .0) (omega (arith, turn .inv .2))
-    (told-bad _ _ _ (row .ensures .0) (c .enum-told .given .1))
+    (row .result) (row .ensures .0) (c .enum-told .given .1)
 
 sub-append : tie.Need-sub-append Inv-loop μ-loop
 sub-append c =
@@ -148,8 +148,8 @@ loop-again c =
     let room : turn .rows < length (turn .ends) = omega arith in
     let i = inside-code _ _ _ _ _ _ _ (row .ensures .1) (mark .given .1) in
     let size = part-length (start .args .file .now) (mark .given .0 .1 .1 .0) (mark .given .0 .1 .1 .1 .0) (i .1) (omega (arith, stop .ensures)) in (
-      one-more _ _ _ _ _ (turn .bytes) (turn .ends) (turn .values) (turn .marks) (turn .inv .0) (c .before .before .before .before .before .before .before .before .before .before .before .loop-test .taken) (stop .result) (stop .ensures .0) (stop .ensures .1 .1) (omega (arith, turn .inv .2)) _
-          (told-code _ _ _ _ _ _ _ (row .ensures .0) (mark .given .1)) (omega arith) (put .result) (put .last .0) (put .ensures .0) (put .ensures .1) room
+      one-more _ _ _ _ _ (turn .bytes) (turn .ends) (turn .values) (turn .marks) (turn .inv .0) (c .before .before .before .before .before .before .before .before .before .before .before .loop-test .taken) (stop .result) (stop .ensures .0) (stop .ensures .1 .1) (omega (arith, turn .inv .2))
+          (row .result) _ _ _ _ (row .ensures .0) (mark .given .1) (omega arith) (put .result) (put .last .0) (put .ensures .0) (put .ensures .1) room
           (omega (arith, turn .inv .2, turn .inv .3, start .pre .1 .1 .0)) (omega (arith, turn .inv .2, turn .inv .4, start .pre .1 .1 .1)),
       put .kept .0 ∙ turn .inv .1,
       length-set (turn .ends) _ _ ∙ turn .inv .2,

@@ -38,7 +38,7 @@ returns-2 c =
     let turn = c .before .before .before .before .loop in
     let ps = patternsOf (start .args .bytes .now) (start .args .ends .now) in
     let count = patterns-length (start .args .bytes .now) (start .args .ends .now) in
-    λ s. sym (hazard-here ps (start .args .marks .now) (start .args .code .now) (turn .i) (omega (arith, count)) (omega arith) (sym (c .before .row-warns .ensures s) ∙ c .if2 .taken))
+    λ s. sym (hazard-here ps (start .args .marks .now) (start .args .code .now) (turn .i) (omega (arith, count)) (omega arith) (c .before .row-warns .result) (c .before .row-warns .ensures s) (c .if2 .taken))
     ∙ turn .inv .1 s
 
 add-i : tie.Need-add-i Inv-loop μ-loop
@@ -54,7 +54,7 @@ loop-again c =
     let ps = patternsOf (start .args .bytes .now) (start .args .ends .now) in
     let count = patterns-length (start .args .bytes .now) (start .args .ends .now) in (
       omega arith,
-      λ s. hazard-next ps (start .args .marks .now) (start .args .code .now) (turn .i) (omega (arith, count)) (omega arith) (sym (c .before .row-warns .ensures s) ∙ c .if2 .left)
+      λ s. hazard-next ps (start .args .marks .now) (start .args .code .now) (turn .i) (omega (arith, count)) (omega arith) (c .before .row-warns .result) (c .before .row-warns .ensures s) (c .if2 .left)
           ∙ turn .inv .1 s,
     )
 
