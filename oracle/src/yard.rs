@@ -7,6 +7,7 @@ use crate::model::{self, Model};
 use crate::tables::{Found, List, Match, Pattern, LEFTMOST_FIRST, LEFTMOST_LONGEST, STANDARD};
 use std::fs;
 
+const MOST_LINES: usize = 1024;
 const MOST_TEXT: usize = 65_536;
 
 /// `oracle yard LIST SHEET SEARCH`.
@@ -57,18 +58,22 @@ fn line(found: &Match) -> String {
 }
 
 /// A line ends with LF, the last one perhaps without; after a final LF there is
-/// no line.
+/// no line. The first bad line is told: one past the limit, or one whose value
+/// is none.
 fn patterns(file: &[u8]) -> Result<Vec<Pattern>, String> {
     let mut lines: Vec<&[u8]> = file.split(|byte| *byte == b'\n').collect();
     if lines.last().is_some_and(|last| last.is_empty()) {
         lines.pop();
     }
-    let numbered = lines.iter().enumerate();
-    numbered
-        .map(|(number, line)| {
-            pattern(number, line).ok_or(format!("line {}: bad value", number + 1))
-        })
-        .collect()
+    let mut patterns = vec![];
+    for (number, line) in lines.iter().enumerate() {
+        if number == MOST_LINES {
+            return Err("refusal 3".to_string());
+        }
+        let told = || format!("line {}: bad value", number + 1);
+        patterns.push(pattern(number, line).ok_or_else(told)?);
+    }
+    Ok(patterns)
 }
 
 fn pattern(number: usize, line: &[u8]) -> Option<Pattern> {

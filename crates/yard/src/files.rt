@@ -6,13 +6,8 @@ pub(crate) enum File {
     Full,
     // errno says why.
     Failed,
-}
-
-// A read that fails looks like the end of the file to `read_full`. So one more read has to say that it is the end: a folder or a failing disk must not pass
-// for a short file.
-fn at_end(fd: i32) -> bool {
-    let mut more = [0u8; 1];
-    libc::read(fd, &mut more) == 0
+    // What was read is not the whole file, and no reason is known.
+    Cut,
 }
 
 pub(crate) fn read_file(name: &[u8], room: &mut [u8]) -> File {
@@ -24,8 +19,15 @@ pub(crate) fn read_file(name: &[u8], room: &mut [u8]) -> File {
     if size == room.len() {
         return File::Full;
     }
-    if !at_end(fd) {
+    // A read that fails looks like the end of the file to `read_full`. So one more read has to say that it is the end: a folder or a failing disk must not
+    // pass for a short file.
+    let mut more = [0u8; 1];
+    let got = libc::read(fd, &mut more);
+    if got < 0 {
         return File::Failed;
+    }
+    if 0 < got {
+        return File::Cut;
     }
     libc::close(fd);
     File::Read(size)

@@ -91,6 +91,10 @@ pub(crate) fn tell_line(name: &[u8], number: u64, what: &[u8]) {
     write_line(ERRORS, &line, ended);
 }
 
+pub(crate) fn tell_cut(name: &[u8]) {
+    tell_file(name, b"the file cannot be read to its end");
+}
+
 // A list that cannot be built. 1, 2, 6 and 8 cannot be met here: the kind is known, the ends are read in order, and the tables are ample.
 pub(crate) fn tell_built(name: &[u8], built: Built) {
     match built {

@@ -5,6 +5,7 @@ use crate::ask::NAME;
 use crate::files::File;
 use crate::files::read_file;
 use crate::refuse::tell_built;
+use crate::refuse::tell_cut;
 use crate::refuse::tell_failed;
 use crate::refuse::tell_file;
 use crate::refuse::tell_line;
@@ -205,6 +206,7 @@ fn read_sheet(way: Way, numbers: bool, list_name: &[u8], sheet_name: &[u8], list
         // The search refuses it, after the refusals of the list.
         File::Full => work_on(way, numbers, list_name, sheet_name, list, &sheet, SHEET),
         File::Failed => tell_failed(sheet_name),
+        File::Cut => tell_cut(sheet_name),
     }
 }
 
@@ -241,6 +243,7 @@ fn read_list(way: Way, numbers: bool, list_name: &[u8], sheet_name: &[u8]) {
         File::Read(size) => with_list(way, numbers, list_name, sheet_name, &list, size),
         File::Full => tell_file(list_name, b"the list is longer than 131071 bytes"),
         File::Failed => tell_failed(list_name),
+        File::Cut => tell_cut(list_name),
     }
 }
 
