@@ -1,9 +1,9 @@
 // The whole list of codes, read into tables: the bytes of all codes in a row, and for each row the end of its code, its value and its mark.
 ghost use mathlib.Core.Path.{_≡_};
 ghost use mathlib.Core.List.{_++_};
-ghost use Prim.Native.Nat.{_+_, _-_, _≤_, _<_, suc};
+ghost use Prim.Native.Nat.{_+_, _-_, _≤_, _<_};
 ghost use lib.ListN.{length, take, drop};
-ghost use Rattle.desk.specs.Stretches.{lineEnd, bare};
+ghost use Rattle.desk.specs.Stretches.{bare};
 ghost use Rattle.desk.specs.Rows.{rowOf};
 ghost use Rattle.desk.specs.Codes.{codes, Says, lineTold, Inside};
 use crate::rows::Row;

@@ -1,6 +1,5 @@
 // The number that digits spell.
 ghost use mathlib.Core.Path.{_≡_};
-ghost use mathlib.Core.Bool.{Bool};
 ghost use Rattle.desk.specs.Numbers.{isDigit, numberOf, spelt};
 
 const MOST_VALUE: u64 = 4294967295;

@@ -1,6 +1,6 @@
 // Stretches of bytes: where a byte stands first, where a line ends, and whether two stretches are the same.
 ghost use mathlib.Core.Path.{_≡_};
-ghost use Prim.Native.Nat.{_≤_, _<_};
+ghost use Prim.Native.Nat.{_≤_};
 ghost use lib.ListN.{length};
 ghost use Rattle.paper.specs.Lists.{same};
 ghost use Rattle.desk.specs.Stretches.{ahead, lineEnd, bareLength};

@@ -11,24 +11,24 @@ pub(crate) enum File {
 }
 
 pub(crate) fn read_file(name: &[u8], room: &mut [u8]) -> File {
-    let fd = os::open_read(name);
-    if fd < 0 {
+    let file = os::open_read(name);
+    if file < 0 {
         return File::Failed;
     }
-    let size = io::read_full(fd, room);
+    let size = io::read_full(file, room);
     if size == room.len() {
         return File::Full;
     }
     // A read that fails looks like the end of the file to `read_full`. So one more read has to say that it is the end: a folder or a failing disk must not
     // pass for a short file.
     let mut more = [0u8; 1];
-    let got = libc::read(fd, &mut more);
+    let got = libc::read(file, &mut more);
     if got < 0 {
         return File::Failed;
     }
     if 0 < got {
         return File::Cut;
     }
-    libc::close(fd);
+    libc::close(file);
     File::Read(size)
 }

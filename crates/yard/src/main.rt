@@ -5,8 +5,10 @@ mod files;
 mod help;
 mod lines;
 mod matches;
+mod numbers;
 mod refuse;
 mod report;
+mod tell;
 mod work;
 
 use ask::Asked;

@@ -1,10 +1,29 @@
-// The calls of a search, and the matches in a sheet.
+// The calls of a search, and how they came out.
 use desk::hazards::is_hazard;
 use desk::words::Way;
 use search::Answer;
+use search::Refusal;
 use search::Search;
 use table::Counts;
 use table::Depth;
+
+// A proved loop has to end. So the calls are counted, up to a number that no search uses up: a sheet has at most 65,536 places, at each of which at most
+// 1,024 codes end, and the end is said once.
+pub(crate) const CALLS: u32 = 67108865;
+
+// How a run of calls came out.
+pub(crate) enum Outcome {
+    Done,
+    Unwritten,
+    Refused(Refusal),
+}
+
+pub(crate) fn outcome_of(written: bool) -> Outcome {
+    if written {
+        return Outcome::Done;
+    }
+    Outcome::Unwritten
+}
 
 // The next answer of a search.
 pub(crate) fn call(

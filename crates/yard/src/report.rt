@@ -1,14 +1,13 @@
-// What is printed of a sheet.
+// What is printed for people: a heading, the hazards, the other matches, and the hazards' number again.
 ghost use Rattle.desk.specs.Places.{Right};
 use crate::lines::LINE;
 use crate::lines::OUT;
 use crate::lines::write_line;
+use crate::matches::CALLS;
+use crate::matches::Outcome;
 use crate::matches::call;
 use crate::matches::hazard_at;
-use crate::refuse::tell_refused;
-use crate::refuse::tell_unwritten;
-use crate::work::CELLS;
-use crate::work::OUTPUTS;
+use crate::matches::outcome_of;
 use desk::places::Place;
 use desk::places::first_place;
 use desk::places::follow;
@@ -25,93 +24,11 @@ use std::num::wrapping_add_u64;
 use table::Counts;
 use table::Depth;
 
-// A proved loop has to end. So the calls are counted down, from a number that no search uses up: a sheet has at most 65,536 places, and at each of them at
-// most 1,024 codes end.
-const CALLS: u32 = 67108865;
-
-// How a run of calls came out.
-enum Outcome {
-    Done,
-    Unwritten,
-    Refused(Refusal),
-}
-
 // How many matches of each sort there are.
 struct Tally {
     hazards: u64,
     others: u64,
 }
-
-// ---- numbers alone
-
-fn write_match(line: &mut [u8; LINE], found: Match) -> bool {
-    let started = put_number(line, 0, found.start as u64);
-    let parted = put(line, started, b" ");
-    let ended = put_number(line, parted, found.end as u64);
-    let again = put(line, ended, b" ");
-    let valued = put_number(line, again, found.value as u64);
-    let last = put(line, valued, b"\n");
-    write_line(OUT, line, last)
-}
-
-fn write_moves(line: &mut [u8; LINE], moves: u64) -> bool {
-    let begun = put(line, 0, b"moves ");
-    let counted = put_number(line, begun, moves);
-    let last = put(line, counted, b"\n");
-    write_line(OUT, line, last)
-}
-
-fn outcome_of(written: bool) -> Outcome {
-    if written {
-        return Outcome::Done;
-    }
-    Outcome::Unwritten
-}
-
-fn print_numbers(
-    way: Way,
-    base: &[u32],
-    link: &[u32],
-    output: &[u32],
-    check: &[u8],
-    depth: &[Depth],
-    outs: &[[u32; 3]],
-    counts: Counts,
-    sheet: &[u8],
-) -> Outcome {
-    let mut line = [0u8; LINE];
-    let mut at = Search::fresh();
-    for _ in 0..CALLS {
-        match call(
-            way,
-            at,
-            base,
-            link,
-            output,
-            check,
-            depth,
-            outs,
-            counts,
-            sheet,
-        ) {
-            Answer::Match(found, next) => {
-                if !write_match(&mut line, found) {
-                    return Outcome::Unwritten;
-                }
-                at = next;
-            }
-            Answer::End(last) => {
-                return outcome_of(write_moves(&mut line, last.moves));
-            }
-            Answer::Refused(why, _) => {
-                return Outcome::Refused(why);
-            }
-        }
-    }
-    Outcome::Refused(Refusal::Damage)
-}
-
-// ---- for people
 
 fn counted(tally: Tally, hazard: bool) -> Tally {
     if hazard {
@@ -326,7 +243,7 @@ fn write_last(line: &mut [u8; LINE], name: &[u8], hazards: u64) -> bool {
     write_line(OUT, line, ended)
 }
 
-fn print_report(
+pub(crate) fn print_report(
     way: Way,
     name: &[u8],
     bytes: &[u8],
@@ -399,103 +316,4 @@ fn print_report(
         return second;
     };
     outcome_of(write_last(&mut line, name, tally.hazards))
-}
-
-fn tell_outcome(name: &[u8], outcome: Outcome) {
-    match outcome {
-        Outcome::Done => {}
-        Outcome::Unwritten => tell_unwritten(),
-        Outcome::Refused(why) => tell_refused(name, why),
-    }
-}
-
-// The first answer of the search says whether it takes the sheet. Nothing is printed before.
-fn tell_lent(
-    way: Way,
-    numbers: bool,
-    name: &[u8],
-    bytes: &[u8],
-    ends: &[u32],
-    marks: &[u8],
-    base: &[u32],
-    link: &[u32],
-    output: &[u32],
-    check: &[u8],
-    depth: &[Depth],
-    outs: &[[u32; 3]],
-    counts: Counts,
-    sheet: &[u8],
-) {
-    let begun = Search::fresh();
-    if let Answer::Refused(why, _) = call(
-        way,
-        begun,
-        base,
-        link,
-        output,
-        check,
-        depth,
-        outs,
-        counts,
-        sheet,
-    ) {
-        tell_refused(name, why);
-        return;
-    }
-    if numbers {
-        let told = print_numbers(way, base, link, output, check, depth, outs, counts, sheet);
-        tell_outcome(name, told);
-        return;
-    }
-    let told = print_report(
-        way,
-        name,
-        bytes,
-        ends,
-        marks,
-        base,
-        link,
-        output,
-        check,
-        depth,
-        outs,
-        counts,
-        sheet,
-    );
-    tell_outcome(name, told);
-}
-
-// From arrays, which become slices here: to make them slices where they are built is dear to check.
-pub(crate) fn tell_all(
-    way: Way,
-    numbers: bool,
-    name: &[u8],
-    bytes: &[u8],
-    ends: &[u32],
-    marks: &[u8],
-    base: &[u32; CELLS],
-    link: &[u32; CELLS],
-    output: &[u32; CELLS],
-    check: &[u8; CELLS],
-    depth: &[Depth; CELLS],
-    outs: &[[u32; 3]; OUTPUTS],
-    counts: Counts,
-    sheet: &[u8],
-) {
-    tell_lent(
-        way,
-        numbers,
-        name,
-        bytes,
-        ends,
-        marks,
-        base,
-        link,
-        output,
-        check,
-        depth,
-        outs,
-        counts,
-        sheet,
-    );
 }

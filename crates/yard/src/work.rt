@@ -9,7 +9,7 @@ use crate::refuse::tell_cut;
 use crate::refuse::tell_failed;
 use crate::refuse::tell_file;
 use crate::refuse::tell_line;
-use crate::report::tell_all;
+use crate::tell::tell_all;
 use build::Built;
 use desk::codes::Codes;
 use desk::codes::read_codes;

@@ -1,8 +1,8 @@
 -- `print_numbers` ends: it counts its calls. Nothing has to hold from turn to turn.
 use Prim.Native.Nat.{_-_, _≤_}
 use borrow.Author.Needs.{needs}
-use Rattle.yard.proofs.report.print_numbers.Statement.{statement}
-use Rattle.yard.proofs.report.print_numbers.Tie as tie
+use Rattle.yard.proofs.numbers.print_numbers.Statement.{statement}
+use Rattle.yard.proofs.numbers.print_numbers.Tie as tie
 
 abbrev Inv-loop : tie.InvT-loop
 Inv-loop way base link output check depth outs counts sheet line₀ at₀ counter₀ line at counter = Unit {0}
