@@ -1,0 +1,52 @@
+-- `desk::text::put_shown` stays within its line, whose length it keeps.
+use mathlib.Core.Path.{_≡_, sym, ap, _∙_}
+use Prim.Native.Nat.{_-_, _≤_}
+use lib.ListN.{length}
+use borrow.Author.Needs.{needs}
+use Rattle.desk.proofs.text.put_shown.Statement.{statement}
+use Rattle.desk.proofs.text.put_shown.Tie as tie
+
+abbrev Inv-loop : tie.InvT-loop
+Inv-loop line₀ end part at₀ i₀ line at i = (i ≤ length part) × (length line ≡ length line₀)
+
+abbrev μ-loop : tie.MeasureT-loop
+μ-loop line₀ end part at₀ i₀ line at i = length part - i
+
+loop-holds : tie.Need-loop-holds Inv-loop μ-loop
+loop-holds c = search needs
+
+shared-slice-read-put-visible : tie.Need-shared-slice-read-put-visible Inv-loop μ-loop
+shared-slice-read-put-visible c = search needs
+
+put-visible-requires : tie.Need-put-visible-requires Inv-loop μ-loop
+put-visible-requires c κs = search needs
+
+add-i : tie.Need-add-i Inv-loop μ-loop
+add-i c = search needs
+
+loop-less : tie.Need-loop-less Inv-loop μ-loop
+loop-less c = search needs
+
+loop-again : tie.Need-loop-again Inv-loop μ-loop
+loop-again c = search needs
+
+same-length : tie.Need-same-length Inv-loop μ-loop
+same-length c = search needs
+
+returns : tie.Need-returns Inv-loop μ-loop
+returns c = search needs
+
+pub put-shown-spec : {M : Type 1} → statement M
+put-shown-spec =
+    tie.close
+    (tie.spec
+    Inv-loop
+    μ-loop
+    loop-holds
+    shared-slice-read-put-visible
+    put-visible-requires
+    add-i
+    loop-less
+    loop-again
+    same-length
+    returns)

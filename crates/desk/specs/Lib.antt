@@ -1,0 +1,7 @@
+pub mod Stretches
+pub mod Numbers
+pub mod Rows
+pub mod Codes
+pub mod Places
+pub mod Hazards
+pub mod Claims
