@@ -15,8 +15,14 @@ pub fn probe(cells: &[Cell], cell: usize, byte: u8) -> Option<usize> {
 
 /// The moves at the end of the text, with or without a restart at each match.
 pub fn moves(cells: &[Cell], text: &[u8], restarts: bool) -> u32 {
+    counts(cells, text, restarts).last().copied().unwrap_or(0)
+}
+
+/// The moves after each byte of the text.
+pub fn counts(cells: &[Cell], text: &[u8], restarts: bool) -> Vec<u32> {
     let mut cell = ROOT;
     let mut moves = 0;
+    let mut counts = Vec::with_capacity(text.len());
     for byte in text {
         let mut next = probe(cells, cell, *byte);
         while next.is_none() && cell != ROOT {
@@ -25,10 +31,11 @@ pub fn moves(cells: &[Cell], text: &[u8], restarts: bool) -> u32 {
             next = probe(cells, cell, *byte);
         }
         moves += 1;
+        counts.push(moves);
         let is_match = |cell: &usize| cells[*cell].output != 0;
         cell = next
             .filter(|cell| !restarts || !is_match(cell))
             .unwrap_or(ROOT);
     }
-    moves
+    counts
 }

@@ -1,0 +1,1 @@
+pub fn run(_words: &[&str]) -> Result<String, String> { Ok(String::new()) }
