@@ -5,14 +5,13 @@ set -eu
 
 here=$(cd "$(dirname "$0")" && pwd)
 out="$here/../target/compare"
-archive="$here/../target/staticlib/libexports.a"
+archive="${ROTSPANGLE_LIB:-$here/../target/staticlib}/libexports.a"
 
 nothing_to_build() {
     echo "compare: not built, $1"
     exit 3
 }
 
-if [ -n "${ROTSPANGLE_LIB:-}" ]; then archive="$ROTSPANGLE_LIB/libexports.a"; fi
 sh "$here/../oracle/build.sh"
 [ -f "$archive" ] || nothing_to_build "there is no static library (rt staticlib exports makes it)"
 

@@ -61,7 +61,13 @@ fn run_exhaustive(longest_text: usize, fault: Fault) -> Result<Tally, String> {
 fn run_written_down(fault: Fault) -> Result<Tally, String> {
     let questions = families::written_down();
     let question = |number: usize| questions[number].clone();
-    on_threads("written down", questions.len(), question, Care::WHOLE, fault)
+    on_threads(
+        "written down",
+        questions.len(),
+        question,
+        Care::WHOLE,
+        fault,
+    )
 }
 
 fn run_family(family: &Family, lists: usize, fault: Fault) -> Result<Tally, String> {
@@ -150,6 +156,9 @@ pub fn replay(file: &str) -> Result<String, String> {
     let question = notation::read_question(&input)?;
     match judge(&question, Care::WHOLE, 0, Fault::None) {
         Ok(tally) => Ok(format!("replay: no difference: {}", tally.told())),
-        Err(difference) => Err(format!("DIFFERENCE: {}", replayable(&question, &difference))),
+        Err(difference) => Err(format!(
+            "DIFFERENCE: {}",
+            replayable(&question, &difference)
+        )),
     }
 }

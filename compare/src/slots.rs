@@ -44,13 +44,7 @@ impl Slots {
     }
 
     pub fn cells(&self) -> usize {
-        let columns = [
-            self.base,
-            self.link,
-            self.output,
-            self.check,
-            self.depth,
-        ];
+        let columns = [self.base, self.link, self.output, self.check, self.depth];
         columns.into_iter().fold(self.spots, usize::min)
     }
 

@@ -107,7 +107,10 @@ pub fn matcher(expected: &Expected) -> Result<Option<Matcher>, String> {
     match (built, expected.refusal) {
         (Ok(matcher), None) => {
             let told = |error| format!("matcher: {error}");
-            expected.made().same_tables(matcher.tables()).map_err(told)?;
+            expected
+                .made()
+                .same_tables(matcher.tables())
+                .map_err(told)?;
             Ok(Some(matcher))
         }
         (Err(given), Some(due)) if (given.number(), row(given)) == due => Ok(None),

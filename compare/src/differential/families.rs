@@ -75,23 +75,89 @@ pub fn all() -> Vec<Family> {
         care,
     };
     vec![
-        family("1 letter", |dice| random::small(dice, 1), [3000, 40], 60, USUAL),
-        family("2 letters", |dice| random::small(dice, 2), [3000, 40], 120, USUAL),
-        family("3 letters", |dice| random::small(dice, 3), [3000, 40], 120, USUAL),
-        family("4 letters", |dice| random::small(dice, 4), [3000, 40], 120, USUAL),
-        family("26 letters", |dice| random::small(dice, 26), [3000, 40], 120, USUAL),
-        family("256 letters", |dice| random::small(dice, 256), [3000, 40], 120, USUAL),
+        family(
+            "1 letter",
+            |dice| random::small(dice, 1),
+            [3000, 40],
+            60,
+            USUAL,
+        ),
+        family(
+            "2 letters",
+            |dice| random::small(dice, 2),
+            [3000, 40],
+            120,
+            USUAL,
+        ),
+        family(
+            "3 letters",
+            |dice| random::small(dice, 3),
+            [3000, 40],
+            120,
+            USUAL,
+        ),
+        family(
+            "4 letters",
+            |dice| random::small(dice, 4),
+            [3000, 40],
+            120,
+            USUAL,
+        ),
+        family(
+            "26 letters",
+            |dice| random::small(dice, 26),
+            [3000, 40],
+            120,
+            USUAL,
+        ),
+        family(
+            "256 letters",
+            |dice| random::small(dice, 256),
+            [3000, 40],
+            120,
+            USUAL,
+        ),
         family("duplicates", duplicates, [3000, 40], 120, USUAL),
-        family("prefixes and suffixes", prefixes_and_suffixes, [3000, 40], 120, USUAL),
+        family(
+            "prefixes and suffixes",
+            prefixes_and_suffixes,
+            [3000, 40],
+            120,
+            USUAL,
+        ),
         family("bytes 0 and 255", end_bytes, [3000, 40], 120, USUAL),
-        family("limit 3: 1,020 to 1,028 listed", listed, [1500, 4], 40, LARGE),
+        family(
+            "limit 3: 1,020 to 1,028 listed",
+            listed,
+            [1500, 8],
+            40,
+            LARGE,
+        ),
         family("limit 4: an empty pattern", empty, [3000, 40], 40, USUAL),
         family("limit 5: 60 to 66 bytes", long, [3000, 40], 40, USUAL),
         family("limits 6 to 8: slots", blocks, [1500, 8], 40, SLOTS),
-        family("limit 7: near 65,536 cells", crowded::random_question, [1000, 1], 8, VAST),
-        family("limit 10: 65,535 to 65,537 bytes", long_texts, [1000, 2], 0, LONG_TEXTS),
+        family(
+            "limit 7: near 65,536 cells",
+            crowded::random_question,
+            [740, 4],
+            8,
+            VAST,
+        ),
+        family(
+            "limit 10: 65,535 to 65,537 bytes",
+            long_texts,
+            [1000, 2],
+            0,
+            LONG_TEXTS,
+        ),
         family("several blocks", blocks, [1500, 8], 80, LARGE),
-        family("fibre crew", |dice| fibre::question(dice, 900), [1000, 4], 40, LARGE),
+        family(
+            "fibre crew",
+            |dice| fibre::question(dice, 900),
+            [1000, 4],
+            40,
+            LARGE,
+        ),
         family("window", window::question, [1500, 8], 40, LARGE),
     ]
 }
@@ -238,7 +304,9 @@ fn long_texts(dice: &mut Dice) -> Question {
     let letters = *dice.pick(&[2, 3, 4, 26]);
     let mut question = random::small(dice, letters);
     let whole = repeated(dice, &question, 65_537);
-    question.texts = (65_535..=65_537).map(|length| whole[..length].to_vec()).collect();
+    question.texts = (65_535..=65_537)
+        .map(|length| whole[..length].to_vec())
+        .collect();
     question
 }
 

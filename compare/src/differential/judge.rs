@@ -103,24 +103,34 @@ struct Judge<'a> {
 }
 
 impl Judge<'_> {
-    fn text(&self, index: usize, text: &[u8], turn: usize, tally: &mut Tally) -> Result<(), String> {
+    fn text(
+        &self,
+        index: usize,
+        text: &[u8],
+        turn: usize,
+        tally: &mut Tally,
+    ) -> Result<(), String> {
         if text.len() > LONGEST_TEXT {
             return self.refuses(text, tally);
         }
         let cells = &self.expected.tables.cells;
         let searches = match self.expected.built.found(text) {
             Found::Standard { overlapping, plain } => vec![
-                (Which::Overlapping, overlapping, cell_walk::counts(cells, text, false)),
-                (Which::Plain, plain, cell_walk::counts(cells, text, true)),
+                (
+                    Which::Overlapping,
+                    overlapping,
+                    cell_walk::steps(cells, text, false),
+                ),
+                (Which::Plain, plain, cell_walk::steps(cells, text, true)),
             ],
             Found::Leftmost(matches) => vec![(Which::Leftmost, matches, vec![])],
         };
-        for (which, matches, counts) in &searches {
+        for (which, matches, steps) in &searches {
             let asked = Asked {
                 which: *which,
                 text,
                 matches,
-                counts,
+                steps,
             };
             let told = |error| format!("{which:?} on text {index}: {error}");
             self.search(&asked, index + turn, tally).map_err(told)?;
@@ -155,11 +165,13 @@ impl Judge<'_> {
             Which::Leftmost => return Ok(()),
         };
         tally.over_strings += 1;
-        let over_cells = asked.counts.last().copied().unwrap_or(0);
+        let over_cells = asked.steps.last().map_or(0, |step| step.moves);
         if over_strings == over_cells {
             return Ok(());
         }
-        Err(format!("moves over strings {over_strings}, over cells {over_cells}"))
+        Err(format!(
+            "moves over strings {over_strings}, over cells {over_cells}"
+        ))
     }
 
     fn refuses(&self, text: &[u8], tally: &mut Tally) -> Result<(), String> {

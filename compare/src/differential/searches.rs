@@ -2,6 +2,7 @@
 //! the value handed back by each call, the end and the end again.
 
 use super::fault::Fault;
+use oracle::cell_walk::Step;
 use oracle::tables::Match;
 use rotspangle::lent::{self, Record, Search, Stop, Tables, Which};
 use rotspangle::{Matcher, Refusal};
@@ -17,14 +18,19 @@ pub struct Asked<'a> {
     pub which: Which,
     pub text: &'a [u8],
     pub matches: &'a [Match],
-    /// The moves after each byte; none for leftmost search, which reports 0.
-    pub counts: &'a [u32],
+    /// The walk in the crate's cells; none for leftmost search, which is handed back at root with
+    /// no moves.
+    pub steps: &'a [Step],
 }
 
 impl Asked<'_> {
     /// Repeated calls on a sheet of this size, from a fresh value to the end.
     pub fn run(&self, tables: &Tables, size: usize, fault: Fault) -> Result<(), String> {
-        let slots = if size == 0 { self.matches.len() + 1 } else { size };
+        let slots = if size == 0 {
+            self.matches.len() + 1
+        } else {
+            size
+        };
         let mut sheet = vec![EMPTY; slots];
         let mut value = Search::default();
         let mut due = self.matches;
@@ -35,7 +41,9 @@ impl Asked<'_> {
             due = records(&sheet, written, due)?;
             let last = written.checked_sub(1).map(|slot| sheet[slot][1]);
             match stop {
-                Stop::Full if written == slots => self.handed_back(value, last.unwrap_or(0))?,
+                Stop::Full if written == slots => {
+                    self.handed_back(value, last.unwrap_or(0), due)?
+                }
                 Stop::Ended if written < slots => break,
                 _ => return Err(format!("{stop:?} with {written} records of {slots} slots")),
             }
@@ -44,22 +52,31 @@ impl Asked<'_> {
         if let Some(missed) = due.first() {
             return Err(format!("the end, but {missed:?} is due"));
         }
-        self.handed_back(value, self.text.len())?;
+        self.handed_back(value, self.text.len(), &[])?;
         self.ends_again(tables, value)
     }
 
-    /// Place and moves; leftmost search is always handed back at root.
-    fn handed_back(&self, value: Search, place: usize) -> Result<(), String> {
-        let is_leftmost = self.which == Which::Leftmost;
-        let moves = match place {
-            0 => 0,
-            _ => self.counts.get(place - 1).copied().unwrap_or(0),
+    /// The value after a match or at the end: where the walk is there. An output is pending exactly
+    /// if the next match has the same end.
+    fn handed_back(&self, value: Search, place: usize, next: &[Match]) -> Result<(), String> {
+        let is_pending = next.first().is_some_and(|next| next.end as usize == place);
+        let step = self.step(place);
+        let due = Search {
+            state: step.cell,
+            pending: if is_pending { value.pending.max(1) } else { 0 },
+            place,
+            moves: u64::from(step.moves),
         };
-        let is_due = value.place == place && value.moves == u64::from(moves);
-        if is_due && (!is_leftmost || (value.state, value.pending) == (0, 0)) {
+        if value == due {
             return Ok(());
         }
-        Err(format!("{value:?} is handed back; due is place {place}, moves {moves}"))
+        Err(format!("{value:?} is handed back; due is {due:?}"))
+    }
+
+    fn step(&self, place: usize) -> Step {
+        let before = place.checked_sub(1);
+        let step = before.and_then(|before| self.steps.get(before));
+        step.copied().unwrap_or_default()
     }
 
     fn ends_again(&self, tables: &Tables, last: Search) -> Result<(), String> {
@@ -88,7 +105,7 @@ impl Asked<'_> {
                 return Err(format!("matcher: {given:?} where {due:?} is due"));
             }
         }
-        let moves = u64::from(self.counts.last().copied().unwrap_or(0));
+        let moves = u64::from(self.step(self.text.len()).moves);
         match due.next() {
             Some(missed) => Err(format!("matcher: the end, but {missed:?} is due")),
             None if found.moves() != moves => {
@@ -102,7 +119,9 @@ impl Asked<'_> {
 /// The written records are the next that are due, and the other slots are as they were. What is due
 /// after them.
 fn records<'a>(sheet: &[Record], written: usize, due: &'a [Match]) -> Result<&'a [Match], String> {
-    let (given, rest) = sheet.split_at_checked(written).ok_or("more written than slots")?;
+    let (given, rest) = sheet
+        .split_at_checked(written)
+        .ok_or("more written than slots")?;
     for (slot, record) in given.iter().enumerate() {
         let is_due = |due: &Match| *record == [due.start, due.end, due.value].map(|n| n as usize);
         if !due.get(slot).is_some_and(is_due) {
@@ -137,5 +156,7 @@ pub fn refused(matcher: &Matcher, which: Which, text: &[u8], number: u32) -> Res
     if told == (0, Stop::Refused(number)) && is_kept && by_matcher == Some(number) {
         return Ok(());
     }
-    Err(format!("{which:?}: {told:?}, matcher {by_matcher:?}; due is refusal {number}"))
+    Err(format!(
+        "{which:?}: {told:?}, matcher {by_matcher:?}; due is refusal {number}"
+    ))
 }
