@@ -6,6 +6,7 @@ mod expected;
 mod families;
 mod fault;
 mod judge;
+mod lists;
 mod searches;
 mod tally;
 
@@ -38,7 +39,7 @@ pub fn run(words: &[&str]) -> Result<String, String> {
     let small = run_exhaustive(longest_text, fault)?;
     let mut others = run_written_down(fault)?;
     for family in families::all() {
-        others.add(&run_family(&family, family.lists[size], fault)?);
+        others.add(&run_family(&family, family.plan.lists[size], fault)?);
     }
     let mut all = small;
     all.add(&others);
@@ -72,7 +73,7 @@ fn run_written_down(fault: Fault) -> Result<Tally, String> {
 
 fn run_family(family: &Family, lists: usize, fault: Fault) -> Result<Tally, String> {
     let question = |number: usize| family.question(number);
-    in_all_kinds(family.name, lists, question, family.care, fault)
+    in_all_kinds(family.name, lists, question, family.plan.care, fault)
 }
 
 /// The question of a number stands for three, one of each kind.

@@ -6,9 +6,10 @@ use super::fault::Fault;
 use super::searches::{refused, Asked, SIZES};
 use super::tally::Tally;
 use oracle::cell_walk;
+use oracle::families::window;
 use oracle::model::Model;
 use oracle::question::Question;
-use oracle::tables::Found;
+use oracle::tables::{Found, List};
 use rotspangle::lent::{Tables, Which};
 use rotspangle::Matcher;
 
@@ -23,6 +24,8 @@ pub struct Care {
     pub ways: usize,
     /// On how many texts the moves are counted over strings too.
     pub over_strings: usize,
+    /// Whether to ask if the list shows the window of 16 blocks.
+    pub window: bool,
 }
 
 impl Care {
@@ -30,6 +33,7 @@ impl Care {
         sheets: SIZES.len(),
         ways: WAYS,
         over_strings: usize::MAX,
+        window: false,
     };
 }
 
@@ -63,6 +67,9 @@ pub fn judge(
     };
     tally.built = 1;
     tally.cells = 2 * u64::from(tables.counts.cells);
+    if care.window && question.list.is_standard() {
+        tally.window = u64::from(shows_window(&question.list));
+    }
     if care.ways > 0 {
         builds::exact(&expected, fault)?;
         for way in turn..turn + care.ways {
@@ -91,6 +98,11 @@ pub fn judge(
         judge.text(index, text, turn, &mut tally).map_err(at_text)?;
     }
     Ok(tally)
+}
+
+/// Whether a window of 15 blocks, of 17 and none would each give other cells.
+fn shows_window(list: &List) -> bool {
+    window::shown_windows(list).len() == 3
 }
 
 struct Judge<'a> {

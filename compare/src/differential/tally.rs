@@ -17,6 +17,8 @@ pub struct Tally {
     pub matches: u64,
     /// Searches whose moves were counted over strings too.
     pub over_strings: u64,
+    /// Lists to which the window of 16 blocks makes a difference, where that was asked.
+    pub window: u64,
 }
 
 impl Tally {
@@ -29,11 +31,16 @@ impl Tally {
         self.runs += other.runs;
         self.matches += other.matches;
         self.over_strings += other.over_strings;
+        self.window += other.window;
     }
 
     pub fn told(&self) -> String {
+        let window = match self.window {
+            0 => String::new(),
+            lists => format!(", {lists} lists of kind 0 show the window"),
+        };
         format!(
-            "{} built, {} refused, {} slot tests, {} cells, {} searches, {} runs, {} matches, {} counts over strings",
+            "{} built, {} refused, {} slot tests, {} cells, {} searches, {} runs, {} matches, {} counts over strings{window}",
             self.built,
             self.refused,
             self.slots,
