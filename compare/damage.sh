@@ -1,7 +1,7 @@
 #!/bin/sh
 # Damage at scale: `damage.sh [N]` plays N cases between guard pages (a million if none is said) and
-# a fifth of them under valgrind; `damage.sh short` a small part of both, and faults that are
-# planted to be seen. Where something is not at hand a line says what, and the exit status is 3.
+# a fifth as many others under valgrind; `damage.sh short` a small part of both. Then come faults that
+# are planted to be seen. Where something is not at hand a line says what, and the exit status is 3.
 set -eu
 
 here=$(cd "$(dirname "$0")" && pwd)
@@ -32,7 +32,7 @@ guarded=${1:-1000000}
 if [ "$guarded" = short ]; then guarded=20000; exact=400; else exact=$((guarded / 5)); fi
 
 "$compare" damage guarded 1 "$guarded"
-if [ "$has_valgrind" = yes ]; then under_valgrind 1 "$exact"; fi
+if [ "$has_valgrind" = yes ]; then under_valgrind "$((guarded + 1))" "$exact"; fi
 
 for fault in past before write sheet slot answer hang; do
     must_be_seen 1 "$compare" damage guarded 1 200 --fault "$fault"

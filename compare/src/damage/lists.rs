@@ -180,18 +180,19 @@ impl ListCase {
             (number, read_back(&lent, number), self.is_kept(&lent))
         };
         ground.take_back();
-        tally.call(number, 0);
         if !is_kept {
             return Err("the list was written".to_string());
         }
         match due {
-            Due::Refused(number, row) => left.is_refused((*number, *row)),
+            Due::Refused(number, row) => left.is_refused((*number, *row))?,
             Due::Made(tables, depths) => left.is_made(Made {
                 kind: self.list.kind,
                 tables,
                 depths,
-            }),
+            })?,
         }
+        tally.call(number, 0);
+        Ok(())
     }
 
     fn lend(&self, work: &Work, tables: &Tables, ground: &mut impl Ground) -> BuildCall {
