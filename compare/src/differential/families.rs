@@ -43,6 +43,7 @@ const SMALL: Plan = Plan {
     lists: [3000, 40],
     texts: 120,
     care: Care {
+        lent_in_all_kinds: true,
         sheets: 2,
         ways: 1,
         over_strings: 4,
@@ -81,9 +82,10 @@ const SLOTS: Plan = Plan {
 
 /// A build near 65,536 cells is dear.
 const VAST: Plan = Plan {
-    lists: [600, 4],
+    lists: [720, 4],
     texts: 8,
     care: Care {
+        lent_in_all_kinds: false,
         sheets: 1,
         ways: 0,
         over_strings: 0,
@@ -95,6 +97,7 @@ const LONG_TEXTS: Plan = Plan {
     lists: [1000, 2],
     texts: 0,
     care: Care {
+        lent_in_all_kinds: true,
         ways: 1,
         ..VAST.care
     },

@@ -18,6 +18,8 @@ const LONGEST_TEXT: usize = 65_536;
 /// How much is asked of a question.
 #[derive(Clone, Copy)]
 pub struct Care {
+    /// Whether all kinds are built in lent slots, or kind 0 alone. A matcher builds them all.
+    pub lent_in_all_kinds: bool,
     /// With how many sizes of sheets a search is run.
     pub sheets: usize,
     /// In how many ways a slot is taken away from a build.
@@ -30,6 +32,7 @@ pub struct Care {
 
 impl Care {
     pub const WHOLE: Care = Care {
+        lent_in_all_kinds: true,
         sheets: SIZES.len(),
         ways: WAYS,
         over_strings: usize::MAX,
@@ -59,14 +62,18 @@ pub fn judge(
     let fault = fault.on(&question.list);
     let expected = Expected::of(&question.list)?;
     let mut tally = Tally::default();
-    let ample = builds::ample(&expected, fault)?;
     let matcher = builds::matcher(&expected)?;
-    let (Some(tables), Some(matcher)) = (ample, matcher) else {
+    let is_lent = care.lent_in_all_kinds || question.list.is_standard();
+    let tables = match is_lent {
+        true => builds::ample(&expected, fault)?,
+        false => matcher.as_ref().map(|matcher| matcher.tables().clone()),
+    };
+    let (Some(tables), Some(matcher)) = (tables, matcher) else {
         tally.refused = 1;
         return Ok(tally);
     };
     tally.built = 1;
-    tally.cells = 2 * u64::from(tables.counts.cells);
+    tally.cells = (1 + u64::from(is_lent)) * u64::from(tables.counts.cells);
     if care.window && question.list.is_standard() {
         tally.window = u64::from(shows_window(&question.list));
     }

@@ -5,7 +5,7 @@ pub struct Tally {
     /// Lists built by both sides, and lists that document 01 refuses.
     pub built: u64,
     pub refused: u64,
-    /// Cells compared, once for the tables in lent slots and once for a matcher's.
+    /// Cells compared, of the tables in ample lent slots and of a matcher's.
     pub cells: u64,
     /// Builds in exact slots and in slots that are one too few.
     pub slots: u64,
