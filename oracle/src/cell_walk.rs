@@ -15,8 +15,22 @@ pub fn probe(cells: &[Cell], cell: usize, byte: u8) -> Option<usize> {
 
 /// The moves at the end of the text, with or without a restart at each match.
 pub fn moves(cells: &[Cell], text: &[u8], restarts: bool) -> u32 {
+    let steps = steps(cells, text, restarts);
+    steps.last().map_or(0, |step| step.moves)
+}
+
+/// Where the walk is after a byte, and the moves so far.
+#[derive(Clone, Copy, Debug, Default, PartialEq, Eq)]
+pub struct Step {
+    pub cell: u32,
+    pub moves: u32,
+}
+
+/// The walk, byte by byte.
+pub fn steps(cells: &[Cell], text: &[u8], restarts: bool) -> Vec<Step> {
     let mut cell = ROOT;
     let mut moves = 0;
+    let mut steps = Vec::with_capacity(text.len());
     for byte in text {
         let mut next = probe(cells, cell, *byte);
         while next.is_none() && cell != ROOT {
@@ -29,6 +43,8 @@ pub fn moves(cells: &[Cell], text: &[u8], restarts: bool) -> u32 {
         cell = next
             .filter(|cell| !restarts || !is_match(cell))
             .unwrap_or(ROOT);
+        let cell = cell as u32;
+        steps.push(Step { cell, moves });
     }
-    moves
+    steps
 }

@@ -1,21 +1,7 @@
 //! The oracle: it asks the published crate and our own model of document 01 the
 //! same questions, and records the crate's answers. README.md tells the commands.
 
-mod cases;
-mod cell_walk;
-mod compare;
-mod crate_answers;
-mod damage;
-mod dice;
-mod families;
-mod model;
-mod notation;
-mod question;
-mod sample;
-mod tables;
-mod wild;
-mod yard;
-
+use oracle::{cases, compare, notation, sample, wild, yard};
 use std::io::{Read, Write};
 use std::process::ExitCode;
 

@@ -9,11 +9,12 @@ mod texts;
 mod throws;
 mod values;
 
+pub use case::{is_long, thrown, Case};
+pub use course::start;
 pub use tally::run_tally;
 
 use crate::damage::{Answer, Notes, SEARCHES};
-use case::{thrown, Case};
-use course::{course, start, Course};
+use course::{course, Course};
 
 const CASES: u32 = 10_000;
 
