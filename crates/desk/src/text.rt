@@ -1,5 +1,4 @@
-// A line put together in a buffer, so that it is written at once. What does not fit is left out: each function answers where the line ends now, which
-// is never past the buffer.
+// A line put together in a buffer, so that it is written at once. Each function answers where the line ends now; what does not fit is left out.
 ghost use mathlib.Core.Path.{_≡_};
 ghost use mathlib.Core.Bool.{false};
 ghost use Rattle.desk.specs.Shown.{isControl, Clean};
