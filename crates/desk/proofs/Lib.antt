@@ -5,3 +5,4 @@ pub mod Locating
 pub mod Warning
 pub mod Listing
 pub mod Claims
+pub mod Showing

@@ -5,3 +5,4 @@ pub mod Codes
 pub mod Places
 pub mod Hazards
 pub mod Claims
+pub mod Shown
