@@ -78,6 +78,9 @@ impl SearchCase {
             records: vec![],
             value: from,
         };
+        if self.slots == 0 {
+            told.number = self.filled_at_once(search, from);
+        }
         while told.records.len() < self.slots {
             let notes = Notes::default();
             let answer = call(search, &self.tables, &self.text, told.value, &notes);
@@ -97,6 +100,15 @@ impl SearchCase {
             }
         }
         told
+    }
+
+    /// An empty sheet is full at once, but 9 and 10 come first.
+    fn filled_at_once(&self, search: Search, from: Value) -> u32 {
+        let answer = call(search, &self.tables, &self.text, from, &Notes::default());
+        match answer {
+            Answer::Refused(number @ (9 | 10), _) => number,
+            _ => FULL,
+        }
     }
 
     /// Plays the case on a ground: each call says what is due, slots past the written ones are as
