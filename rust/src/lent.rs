@@ -3,6 +3,8 @@
 //! They ask for nothing: on any list, any tables, any search value and any text they answer, end, and touch no memory but what is
 //! lent. So they are safe functions here. [`crate::Matcher`] owns its tables and is what most callers want.
 
+use crate::raw;
+
 /// Rows of the working tables: what a build needs while it works, zero again afterwards.
 #[derive(Debug, Default, Clone)]
 pub struct Work {
@@ -118,12 +120,19 @@ pub enum Stop {
 ///
 /// On success `tables.counts` is set. Otherwise the answer is the refusal's number, 1 to 8, and for 4 and 5 the lowest row that has it.
 /// 1 to 5 leave every table as it was; 6 to 8 leave every slot zero. Where slots lie in several columns, the shortest counts.
-pub fn build(kind: u32, bytes: &[u8], ends: &[u32], values: &[u32], work: &mut Work, tables: &mut Tables) -> Result<(), (u32, u32)> {
+pub fn build(
+    kind: u32,
+    bytes: &[u8],
+    ends: &[u32],
+    values: &[u32],
+    work: &mut Work,
+    tables: &mut Tables,
+) -> Result<(), (u32, u32)> {
     let mut told = [0; 4];
     // SAFETY: each pointer and length are those of a slice that is lent for the call, and no two of the mutable ones overlap. The
     // function asks for nothing else.
     let number = unsafe {
-        linked::rotspangle_build(
+        raw::rotspangle_build(
             kind,
             bytes.as_ptr(),
             bytes.len(),
@@ -158,18 +167,29 @@ pub fn build(kind: u32, bytes: &[u8], ends: &[u32], values: &[u32], work: &mut W
         return Err((number, told[0]));
     }
     let [kind, accepted, states, cells] = told;
-    tables.counts = Counts { kind, accepted, states, cells };
+    tables.counts = Counts {
+        kind,
+        accepted,
+        states,
+        cells,
+    };
     Ok(())
 }
 
 /// Goes on with a search from `value`: writes the next matches into the sheet from its first slot, and says how many were written and
 /// why it stopped. `value` is then the one to go on with; after 9 and 10 it is as it was, after 11 it is the one after the last record.
 /// Slots past the written ones stay as they were.
-pub fn fill(which: Which, tables: &Tables, text: &[u8], value: &mut Search, sheet: &mut [Record]) -> (usize, Stop) {
+pub fn fill(
+    which: Which,
+    tables: &Tables,
+    text: &[u8],
+    value: &mut Search,
+    sheet: &mut [Record],
+) -> (usize, Stop) {
     let search = match which {
-        Which::Overlapping => linked::rotspangle_overlapping,
-        Which::Plain => linked::rotspangle_plain,
-        Which::Leftmost => linked::rotspangle_leftmost,
+        Which::Overlapping => raw::rotspangle_overlapping,
+        Which::Plain => raw::rotspangle_plain,
+        Which::Leftmost => raw::rotspangle_leftmost,
     };
     let mut written = 0;
     // SAFETY: as in `build`; the value's fields and `written` are separate places.
@@ -207,76 +227,4 @@ pub fn fill(which: Which, tables: &Tables, text: &[u8], value: &mut Search, shee
         refusal => Stop::Refused(refusal),
     };
     (written, stop)
-}
-
-/// The declarations of `c/rotspangle.h`: a slice is a pointer and a length.
-mod linked {
-    extern "C" {
-        pub fn rotspangle_build(
-            kind: u32,
-            bytes: *const u8,
-            bytes_length: usize,
-            ends: *const u32,
-            ends_length: usize,
-            values: *const u32,
-            values_length: usize,
-            trie: *mut [u32; 5],
-            trie_length: usize,
-            owns: *mut [u32; 2],
-            owns_length: usize,
-            notes: *mut [u32; 6],
-            notes_length: usize,
-            spots: *mut [u32; 2],
-            spots_length: usize,
-            base: *mut u32,
-            base_length: usize,
-            link: *mut u32,
-            link_length: usize,
-            output: *mut u32,
-            output_length: usize,
-            check: *mut u8,
-            check_length: usize,
-            depth: *mut u8,
-            depth_length: usize,
-            outs: *mut [u32; 3],
-            outs_length: usize,
-            counts: *mut [u32; 4],
-        ) -> u32;
-    }
-
-    // The three searches have one signature.
-    macro_rules! searches {
-        ($($name:ident)*) => {
-            extern "C" {
-                $(pub fn $name(
-                    base: *const u32,
-                    base_length: usize,
-                    link: *const u32,
-                    link_length: usize,
-                    output: *const u32,
-                    output_length: usize,
-                    check: *const u8,
-                    check_length: usize,
-                    depth: *const u8,
-                    depth_length: usize,
-                    outs: *const [u32; 3],
-                    outs_length: usize,
-                    kind: u32,
-                    accepted: u32,
-                    cells: u32,
-                    text: *const u8,
-                    text_length: usize,
-                    state: *mut u32,
-                    pending: *mut u32,
-                    place: *mut usize,
-                    moves: *mut u64,
-                    sheet: *mut [usize; 3],
-                    sheet_length: usize,
-                    written: *mut usize,
-                ) -> u32;)*
-            }
-        };
-    }
-
-    searches! { rotspangle_overlapping rotspangle_plain rotspangle_leftmost }
 }

@@ -19,6 +19,7 @@
 pub mod lent;
 mod matcher;
 mod matches;
+pub mod raw;
 mod refusal;
 
 pub use matcher::{Kind, Matcher};

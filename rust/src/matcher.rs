@@ -45,7 +45,10 @@ impl Matcher {
     ///
     /// # Errors
     /// Refusals 3, 4, 5 and 7.
-    pub fn new<P: AsRef<[u8]>>(kind: Kind, patterns: impl IntoIterator<Item = P>) -> Result<Matcher, Refusal> {
+    pub fn new<P: AsRef<[u8]>>(
+        kind: Kind,
+        patterns: impl IntoIterator<Item = P>,
+    ) -> Result<Matcher, Refusal> {
         Matcher::with_values(kind, patterns.into_iter().zip(0..))
     }
 
@@ -62,7 +65,10 @@ impl Matcher {
     ///
     /// # Errors
     /// Refusals 3, 4, 5 and 7.
-    pub fn with_values<P: AsRef<[u8]>>(kind: Kind, patterns: impl IntoIterator<Item = (P, u32)>) -> Result<Matcher, Refusal> {
+    pub fn with_values<P: AsRef<[u8]>>(
+        kind: Kind,
+        patterns: impl IntoIterator<Item = (P, u32)>,
+    ) -> Result<Matcher, Refusal> {
         let mut bytes = Vec::new();
         let mut ends = Vec::new();
         let mut values = Vec::new();

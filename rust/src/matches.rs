@@ -32,7 +32,11 @@ pub struct Matches<'a> {
 }
 
 impl<'a> Matches<'a> {
-    pub(crate) fn begin(which: Which, tables: &'a Tables, text: &'a [u8]) -> Result<Matches<'a>, Refusal> {
+    pub(crate) fn begin(
+        which: Which,
+        tables: &'a Tables,
+        text: &'a [u8],
+    ) -> Result<Matches<'a>, Refusal> {
         let mut matches = Matches {
             which,
             tables,
@@ -48,7 +52,13 @@ impl<'a> Matches<'a> {
     }
 
     fn fetch(&mut self) -> Result<(), Refusal> {
-        let (written, stop) = lent::fill(self.which, self.tables, self.text, &mut self.value, &mut self.sheet);
+        let (written, stop) = lent::fill(
+            self.which,
+            self.tables,
+            self.text,
+            &mut self.value,
+            &mut self.sheet,
+        );
         self.next = 0;
         self.written = written;
         match stop {
@@ -78,13 +88,18 @@ impl Iterator for Matches<'_> {
                 return None;
             }
             // Tables of a good build meet no damage, and 9 and 10 were told when the search began.
-            self.fetch().expect("tables of a good build are searched to the end");
+            self.fetch()
+                .expect("tables of a good build are searched to the end");
             if self.written == 0 {
                 return None;
             }
         }
         let [start, end, value] = self.sheet[self.next];
         self.next += 1;
-        Some(Match { start, end, value: value as u32 })
+        Some(Match {
+            start,
+            end,
+            value: value as u32,
+        })
     }
 }

@@ -85,12 +85,18 @@ impl fmt::Display for Refusal {
         write!(f, "refusal {}: ", self.number())?;
         match self {
             Refusal::BadKind => write!(f, "the kind is above 2"),
-            Refusal::BadEnds => write!(f, "the ends don't cut the bytes, or the values don't match the patterns in number"),
+            Refusal::BadEnds => write!(
+                f,
+                "the ends don't cut the bytes, or the values don't match the patterns in number"
+            ),
             Refusal::TooMany => write!(f, "more than 1,024 patterns"),
             Refusal::Empty { row } => write!(f, "pattern {row} is empty"),
             Refusal::TooLong { row } => write!(f, "pattern {row} has more than 64 bytes"),
             Refusal::FewStates => write!(f, "too few state slots"),
-            Refusal::FewCells => write!(f, "too few cell slots, or the list needs more than 65,536 cells"),
+            Refusal::FewCells => write!(
+                f,
+                "too few cell slots, or the list needs more than 65,536 cells"
+            ),
             Refusal::FewOutputs => write!(f, "too few output slots"),
             Refusal::WrongKind => write!(f, "the tables are of a kind that another search is for"),
             Refusal::LongText => write!(f, "the text has more than 65,536 bytes"),
