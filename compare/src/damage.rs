@@ -33,8 +33,8 @@ const NAMES: [&str; 4] = ["flipped bits", "wild numbers", "random numbers", "lis
 /// The place of the family whose cases are built and not searched.
 const LISTS: usize = 3;
 
-/// How long a call may take.
-const PATIENCE: Duration = Duration::from_secs(10);
+/// How long a call may take. A build near 65,536 cells takes seconds under valgrind.
+const PATIENCE: Duration = Duration::from_secs(20);
 
 enum Case {
     Search(SearchCase),
@@ -86,9 +86,9 @@ pub fn run(words: &[&str]) -> Result<String, String> {
 
 /// Two threads, each with rooms of its own; every case lies in both ways.
 fn run_guarded(first: u64, count: u64, fault: Fault) -> Result<String, String> {
-    let pool = Pool::new()?;
     watch::catch_strays();
     watch::start(patience(fault));
+    let pool = Pool::new()?;
     let next = AtomicU64::new(first);
     let failed: Mutex<Option<String>> = Mutex::new(None);
     let work = |post: usize| {
@@ -130,8 +130,8 @@ fn run_guarded(first: u64, count: u64, fault: Fault) -> Result<String, String> {
 
 /// One thread, since valgrind runs but one at a time.
 fn run_exact(first: u64, count: u64, fault: Fault) -> Result<String, String> {
-    let pool = Pool::new()?;
     watch::start(patience(fault));
+    let pool = Pool::new()?;
     let mut tallies = [Tally::default(); NAMES.len()];
     let mut grounds = [Exact::default()];
     for number in first..first + count {
@@ -201,13 +201,13 @@ fn told(ground: &str, tallies: &[Tally; NAMES.len()]) -> String {
 
 /// One case in full, then played on every ground.
 fn run_one(number: u64) -> Result<String, String> {
+    watch::catch_strays();
+    watch::start(PATIENCE);
     let pool = Pool::new()?;
     match thrown(number, &pool).1 {
         Case::Search(case) => println!("{case:?}"),
         Case::List(case) => println!("{case:?}"),
     }
-    watch::catch_strays();
-    watch::start(PATIENCE);
     let mut tallies = [Tally::default(); NAMES.len()];
     play(
         number,

@@ -1,5 +1,6 @@
 //! Tables of good builds, to be damaged.
 
+use super::watch::watched;
 use oracle::damage::{Counts, Tables};
 use oracle::dice::Dice;
 use oracle::families::{crowded, fibre, random, window};
@@ -71,7 +72,8 @@ fn entries(questions: &[Question]) -> Result<Vec<Entry>, String> {
 
 fn entry(question: &Question, kind: Kind) -> Result<Entry, String> {
     let patterns = &question.list.patterns;
-    let built = Matcher::with_values(kind, patterns.iter().map(|p| (&p.bytes, p.value)))
+    let pairs = patterns.iter().map(|p| (&p.bytes, p.value));
+    let built = watched(|| Matcher::with_values(kind, pairs))
         .map_err(|refusal| format!("{}: {refusal}", question.name))?;
     let built = built.tables();
     let is_state = |cell: &usize| *cell == 0 || built.depth[*cell] > 0;
