@@ -7,9 +7,7 @@ use desk::words::first_wish;
 use desk::words::goes_on;
 use desk::words::standing;
 use desk::words::take_word;
-
-// The room of a word: no name of a file is longer.
-pub(crate) const NAME: usize = 4096;
+use telling::lines::NAME;
 
 // A wish, the lengths of the names that came with it, and the last word that was taken.
 pub(crate) struct Asked {

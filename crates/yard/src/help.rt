@@ -1,5 +1,5 @@
 // What `yard --help` says.
-use crate::lines::OUT;
+use telling::lines::OUT;
 
 fn say(text: &[u8]) -> bool {
     io::write_all(OUT, text)

@@ -3,21 +3,15 @@
 mod ask;
 mod files;
 mod help;
-mod lines;
-mod matches;
-mod numbers;
-mod refuse;
-mod report;
-mod tell;
 mod work;
 
 use ask::Asked;
-use ask::NAME;
 use ask::ask;
 use ask::name_default;
 use desk::words::Stand;
 use help::print_help;
-use refuse::tell_fault;
+use telling::lines::NAME;
+use telling::refuse::tell_fault;
 use work::run;
 
 // The names as they were given, or those of the crew's own files.

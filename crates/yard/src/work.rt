@@ -1,20 +1,22 @@
 // From the two files to the tables and the first answer of the search.
 ghost use Prim.Native.Nat.{_≤_};
 ghost use lib.ListN.{length};
-use crate::ask::NAME;
 use crate::files::File;
 use crate::files::read_file;
-use crate::refuse::tell_built;
-use crate::refuse::tell_cut;
-use crate::refuse::tell_failed;
-use crate::refuse::tell_file;
-use crate::refuse::tell_line;
-use crate::tell::tell_all;
 use build::Built;
 use desk::codes::Codes;
 use desk::codes::read_codes;
 use desk::words::Way;
 use table::Depth;
+use telling::lines::NAME;
+use telling::refuse::tell_built;
+use telling::refuse::tell_cut;
+use telling::refuse::tell_failed;
+use telling::refuse::tell_file;
+use telling::refuse::tell_line;
+use telling::tell::CELLS;
+use telling::tell::OUTPUTS;
+use telling::tell::tell_all;
 
 // The room of a list. One that fills it is too long.
 const LIST: usize = 131072;
@@ -27,10 +29,6 @@ const LISTED: usize = 1024;
 
 // The room of the tables is ample for every list within the limits: it has, with root and dead, at most 65,538 states and 1,024 outputs.
 const STATES: usize = 65538;
-
-pub(crate) const CELLS: usize = 65536;
-
-pub(crate) const OUTPUTS: usize = 1024;
 
 // The kind of the tables that a search wants.
 fn kind_of(way: Way) -> u32 {

@@ -1,7 +1,7 @@
 // What is refused, in one line on standard error.
-use crate::ask::NAME;
 use crate::lines::ERRORS;
 use crate::lines::LINE;
+use crate::lines::NAME;
 use crate::lines::write_line;
 use build::Built;
 use desk::text::put;
@@ -35,7 +35,7 @@ fn tell_words(what: &[u8]) {
     tell_hinted(&mut line, said);
 }
 
-pub(crate) fn tell_fault(stand: Stand, word: usize) {
+pub fn tell_fault(stand: Stand, word: usize) {
     match stand {
         Stand::UnknownOption => tell_word(b"unknown option ", word),
         Stand::UnknownSearch => tell_word(b"unknown search ", word),
@@ -50,7 +50,7 @@ pub(crate) fn tell_fault(stand: Stand, word: usize) {
 }
 
 // Why a file cannot be had: errno has the reason.
-pub(crate) fn tell_failed(name: &[u8]) {
+pub fn tell_failed(name: &[u8]) {
     let mut line = [0u8; LINE];
     let begun = put(&mut line, 0, b"yard: ");
     let named = put_shown(&mut line, begun, name);
@@ -68,7 +68,7 @@ fn fail_line(line: &[u8; LINE], size: usize) {
 }
 
 // About a whole file.
-pub(crate) fn tell_file(name: &[u8], what: &[u8]) {
+pub fn tell_file(name: &[u8], what: &[u8]) {
     let mut line = [0u8; LINE];
     let begun = put(&mut line, 0, b"yard: ");
     let named = put_shown(&mut line, begun, name);
@@ -79,7 +79,7 @@ pub(crate) fn tell_file(name: &[u8], what: &[u8]) {
 }
 
 // About a line of a file; its number here counts from 0.
-pub(crate) fn tell_line(name: &[u8], number: u64, what: &[u8]) {
+pub fn tell_line(name: &[u8], number: u64, what: &[u8]) {
     let mut line = [0u8; LINE];
     let begun = put(&mut line, 0, b"yard: ");
     let named = put_shown(&mut line, begun, name);
@@ -91,12 +91,12 @@ pub(crate) fn tell_line(name: &[u8], number: u64, what: &[u8]) {
     write_line(ERRORS, &line, ended);
 }
 
-pub(crate) fn tell_cut(name: &[u8]) {
+pub fn tell_cut(name: &[u8]) {
     tell_file(name, b"the file cannot be read to its end");
 }
 
 // A list that cannot be built. 1, 2, 6 and 8 cannot be met here: the kind is known, the ends are read in order, and the tables are ample.
-pub(crate) fn tell_built(name: &[u8], built: Built) {
+pub fn tell_built(name: &[u8], built: Built) {
     match built {
         Built::Made(_) => {}
         Built::BadKind => tell_file(name, b"refusal 1: the kind is unknown"),

@@ -1,24 +1,20 @@
--- `print_sort` ends: it counts its calls. From turn to turn the place to look from is right.
+-- `print_numbers` ends: it counts its calls. Nothing has to hold from turn to turn.
 use Prim.Native.Nat.{_-_, _≤_}
-use Rattle.desk.specs.Places.{Right}
 use borrow.Author.Needs.{needs}
-use Rattle.yard.proofs.report.print_sort.Statement.{statement}
-use Rattle.yard.proofs.report.print_sort.Tie as tie
+use Rattle.telling.proofs.numbers.print_numbers.Statement.{statement}
+use Rattle.telling.proofs.numbers.print_numbers.Tie as tie
 
 abbrev Inv-loop : tie.InvT-loop
-Inv-loop hazards way bytes ends marks base link output check depth outs counts sheet line₀ near₀ at₀ counter₀ line near at counter = Right sheet near
+Inv-loop way base link output check depth outs counts sheet line₀ at₀ counter₀ line at counter = Unit {0}
 
 abbrev μ-loop : tie.MeasureT-loop
-μ-loop hazards way bytes ends marks base link output check depth outs counts sheet line₀ near₀ at₀ counter₀ line near at counter = 67108865 - counter
-
-first-place-requires : tie.Need-first-place-requires Inv-loop μ-loop
-first-place-requires c κs = search needs
+μ-loop way base link output check depth outs counts sheet line₀ at₀ counter₀ line at counter = 67108865 - counter
 
 fresh-requires : tie.Need-fresh-requires Inv-loop μ-loop
 fresh-requires c κs = search needs
 
 loop-holds : tie.Need-loop-holds Inv-loop μ-loop
-loop-holds c = c .before .first-place .ensures .0 _
+loop-holds c = search needs
 
 call-requires : tie.Need-call-requires Inv-loop μ-loop
 call-requires c κs = search needs
@@ -26,20 +22,20 @@ call-requires c κs = search needs
 enum-known-found : tie.Need-enum-known-found Inv-loop μ-loop
 enum-known-found c = search needs
 
-follow-requires : tie.Need-follow-requires Inv-loop μ-loop
-follow-requires c κs = search needs
-
-hazard-at-requires : tie.Need-hazard-at-requires Inv-loop μ-loop
-hazard-at-requires c κs = search needs
-
-write-wanted-requires : tie.Need-write-wanted-requires Inv-loop μ-loop
-write-wanted-requires c κs = search needs
+write-match-requires : tie.Need-write-match-requires Inv-loop μ-loop
+write-match-requires c κs = search needs
 
 returns : tie.Need-returns Inv-loop μ-loop
 returns c = search needs
 
-enum-told : tie.Need-enum-told Inv-loop μ-loop
-enum-told c = search needs
+enum-known-last : tie.Need-enum-known-last Inv-loop μ-loop
+enum-known-last c = search needs
+
+write-moves-requires : tie.Need-write-moves-requires Inv-loop μ-loop
+write-moves-requires c κs = search needs
+
+outcome-of-requires : tie.Need-outcome-of-requires Inv-loop μ-loop
+outcome-of-requires c κs = search needs
 
 returns-2 : tie.Need-returns-2 Inv-loop μ-loop
 returns-2 c = search needs
@@ -62,22 +58,21 @@ loop-again c = search needs
 returns-4 : tie.Need-returns-4 Inv-loop μ-loop
 returns-4 c = search needs
 
-pub print-sort-spec : {M : Type 1} → statement M
-print-sort-spec =
+pub print-numbers-spec : {M : Type 1} → statement M
+print-numbers-spec =
     tie.close
     (tie.spec
     Inv-loop
     μ-loop
-    first-place-requires
     fresh-requires
     loop-holds
     call-requires
     enum-known-found
-    follow-requires
-    hazard-at-requires
-    write-wanted-requires
+    write-match-requires
     returns
-    enum-told
+    enum-known-last
+    write-moves-requires
+    outcome-of-requires
     returns-2
     enum-known-why
     returns-3

@@ -1,9 +1,12 @@
 // A line, put together in a buffer and written at once.
 
+// The room of a word of the command line: no name of a file is longer.
+pub const NAME: usize = 4096;
+
 // The room of a line: a file's name of 4,095 bytes, each shown by four, and some words.
 pub(crate) const LINE: usize = 16640;
 
-pub(crate) const OUT: i32 = 1;
+pub const OUT: i32 = 1;
 
 pub(crate) const ERRORS: i32 = 2;
 

@@ -1,8 +1,8 @@
 -- `count_matches` ends: it counts its calls. Nothing has to hold from turn to turn.
 use Prim.Native.Nat.{_-_, _≤_}
 use borrow.Author.Needs.{needs}
-use Rattle.yard.proofs.report.count_matches.Statement.{statement}
-use Rattle.yard.proofs.report.count_matches.Tie as tie
+use Rattle.telling.proofs.report.count_matches.Statement.{statement}
+use Rattle.telling.proofs.report.count_matches.Tie as tie
 
 abbrev Inv-loop : tie.InvT-loop
 Inv-loop way bytes ends marks base link output check depth outs counts sheet tally₀ at₀ counter₀ tally at counter = Unit {0}

@@ -5,13 +5,16 @@ use crate::numbers::print_numbers;
 use crate::refuse::tell_refused;
 use crate::refuse::tell_unwritten;
 use crate::report::print_report;
-use crate::work::CELLS;
-use crate::work::OUTPUTS;
 use desk::words::Way;
 use search::Answer;
 use search::Search;
 use table::Counts;
 use table::Depth;
+
+// As many as any list within the limits needs.
+pub const CELLS: usize = 65536;
+
+pub const OUTPUTS: usize = 1024;
 
 fn tell_outcome(name: &[u8], outcome: Outcome) {
     match outcome {
@@ -78,7 +81,7 @@ fn tell_lent(
 }
 
 // From arrays, which become slices here: to make them slices where they are built is dear to check.
-pub(crate) fn tell_all(
+pub fn tell_all(
     way: Way,
     numbers: bool,
     name: &[u8],
