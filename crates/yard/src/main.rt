@@ -1,6 +1,7 @@
 // The command for the yard: looks for the codes of a crew's list in a job sheet, and tells hazards first. Everything is read, parsed, built and
 // admitted before the first byte is printed, so that a result is never begun and then refused.
 mod ask;
+mod built;
 mod files;
 mod help;
 mod work;

@@ -1,6 +1,7 @@
 // From the two files to the tables and the first answer of the search.
 ghost use Prim.Native.Nat.{_≤_};
 ghost use lib.ListN.{length};
+use crate::built::tell_built;
 use crate::files::File;
 use crate::files::read_file;
 use build::Built;
@@ -9,7 +10,6 @@ use desk::codes::read_codes;
 use desk::words::Way;
 use table::Depth;
 use telling::lines::NAME;
-use telling::refuse::tell_built;
 use telling::refuse::tell_cut;
 use telling::refuse::tell_failed;
 use telling::refuse::tell_file;
