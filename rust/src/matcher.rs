@@ -141,7 +141,7 @@ impl Matcher {
     }
 }
 
-/// Cell slots to begin with: blocks of 256 for a third more cells than states, which most lists need less than.
+/// Cell slots to begin with: blocks of 256 for a third more cells than states. It is a guess, which a build refused by 7 corrects.
 fn first_cells(states: usize) -> usize {
     MOST_CELLS.min((states + states / 3).div_ceil(256).saturating_mul(256))
 }
