@@ -33,7 +33,7 @@ pub record BuildPromise (kind : ℕ) (bytes ends values : List ℕ)
   pub promised : Promise kind bytes ends values trie₀ owns₀ notes₀ spots₀ base₀ link₀ output₀ check₀ depth₀ outs₀
       trie owns notes spots base link output check depth outs built
   pub numbered : r ≡ numberOf (build.answer built)
-  pub told : counts ≡ beside (build.answer built)
+  pub beside-is : counts ≡ beside (build.answer built)
 
 -- ---- a search
 

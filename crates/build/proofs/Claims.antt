@@ -27,7 +27,7 @@ use Rattle.cells.specs.Columns.{column}
 use Rattle.whole.specs.Whole.{stateCount, cellCount, cellsOf}
 use Rattle.whole.specs.Whole as whole
 use Rattle.whole.proofs.Agreement as agreement
-use Rattle.whole.specs.Refusing.{Lent, tableRefusals, allRefusals, Fits}
+use Rattle.whole.specs.Refusing.{Lent, tableRefusals, allRefusals, Suffices}
 use Rattle.build.specs.Outcome.{Outcome, refused, made, refusal, answer, countsOf, onRefusal, outcomeOf}
 use Rattle.build.specs.Phases.{slotsOf}
 use Rattle.wipe.specs.Wiped.{blank, blankRows}
@@ -179,7 +179,7 @@ module _ (kind : ℕ) (bytes ends values : List ℕ) (slots : Lent) where
       (sound-quiet (or-not-left (anyHolds (refusals kind bytes ends values)) (anyHolds (take 2 (tableRefusals es slots))) none), w .0, w .1, w .2, over-outputs (q .0))
 
   -- a good build: nothing is told
-  pub good-told : (counts : Counts) → outcomeOf kind bytes ends values slots ≡ made counts → Sound kind bytes ends values × Fits es slots
+  pub good-told : (counts : Counts) → outcomeOf kind bytes ends values slots ≡ made counts → Sound kind bytes ends values × Suffices es slots
   unfolding toldOf allRefusals refusals tableRefusals anyHolds
   good-told counts e =
       let quiet-all = silent (allRefusals kind bytes ends values slots) (sym told-is ∙ ap toldOf e) in
@@ -204,7 +204,7 @@ module _ (kind : ℕ) (bytes ends values : List ℕ) (slots : Lent) where
   pub answer-claims : AnswerClaims kind bytes ends values slots
   answer-claims =
       record {
-        told = told;
+        lowest-told = told;
         exactly = λ k h. exactly (allRefusals kind bytes ends values slots) k (rw eight-rows h) distinct-all;
         six = (six-told, λ q. outcome-caused kind bytes ends values slots (q .0) 6 (six es slots (q .1)));
         seven = (
@@ -280,7 +280,7 @@ module _ (kind : ℕ) (bytes ends values : List ℕ) (trie₀ owns₀ notes₀ s
     unfolding lent
     outcome-here = sym (P .outcome-is) ∙ sym (P .answered)
 
-    cause : Sound kind bytes ends values × Fits accepted lent
+    cause : Sound kind bytes ends values × Suffices accepted lent
     cause = good-told kind bytes ends values lent counts outcome-here
 
     counts-are : counts ≡ countsOf kind accepted

@@ -14,7 +14,7 @@ use Rattle.list.proofs.Refusals.{lowest-some, lowest-none}
 use Rattle.list.proofs.Sound.{sound-untold}
 use Rattle.nfa.specs.Grown.{acceptedOf}
 use Rattle.whole.specs.Whole.{stateCount, cellCount}
-use Rattle.whole.specs.Refusing.{Lent, tableRefusals, allRefusals, Fits}
+use Rattle.whole.specs.Refusing.{Lent, tableRefusals, allRefusals, Suffices}
 use Rattle.whole.proofs.Refusing.{lowest-six, lowest-seven, lowest-eight, lowest-fitting}
 use Rattle.build.specs.Outcome.{refused, made, refusal, countsOf, onRefusal, outcomeOf}
 use Rattle.build.specs.Phases.{Caused}
@@ -46,7 +46,7 @@ module _ (kind : ℕ) (bytes ends values : List ℕ) (slots : Lent) where
         → outcomeOf kind bytes ends values slots ≡ refusal 8
     outcome-eight h i j k = by-table ∙ ap (λ o. onRefusal o (made (countsOf kind es))) (lowest-eight es slots h i j k)
 
-    pub outcome-made : Fits es slots → outcomeOf kind bytes ends values slots ≡ made (countsOf kind es)
+    pub outcome-made : Suffices es slots → outcomeOf kind bytes ends values slots ≡ made (countsOf kind es)
     outcome-made F = by-table ∙ ap (λ o. onRefusal o (made (countsOf kind es))) (lowest-fitting es slots F)
 
     -- a refusal with its cause is told

@@ -32,7 +32,7 @@ use Rattle.placement.specs.declared.Blocks.{Blocks}
 use Rattle.placement.specs.declared.Blocks.the-variants.{Now, Full}
 use Rattle.cells.specs.Columns.{Writable, Written}
 use Rattle.whole.specs.Whole.{stateCount, layoutOf, cellCount, cellsOf, outputsOf}
-use Rattle.whole.specs.Refusing.{Lent, Fits}
+use Rattle.whole.specs.Refusing.{Lent, Suffices}
 use Rattle.build.specs.Outcome.{blocksIn}
 use Rattle.wipe.specs.Wiped.{blank, blankRows}
 use Rattle.build.specs.Phases.{Layable, LaidDown, LaidBy, Fillable, Filled, Caused}
@@ -196,7 +196,7 @@ module _ {kind : ℕ} {bytes ends values : List ℕ} (S : Sound kind bytes ends 
           eight = λ z. (omega (arith, states-fit), count-fits .0, count-fits .1, omega (arith, G .made .count-is));
         }
 
-    pub fits : count ≤ slots .outputs → Fits es slots
+    pub fits : count ≤ slots .outputs → Suffices es slots
     fits h = record { states = omega (arith, states-fit); cells = count-fits .0; most = count-fits .1; outputs = omega (arith, G .made .count-is) }
 
     pub fillable : {base link' output check depth : List ℕ} {outs : List (List ℕ)} → Bytes bytes → length notes' ≡ length notes → slots .cells ≤ length spots

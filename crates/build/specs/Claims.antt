@@ -13,7 +13,7 @@ use Rattle.list.specs.Claims.{Bytes, Sound}
 use Rattle.table.specs.Agrees.{Tables, Agrees}
 use Rattle.nfa.specs.Grown.{acceptedOf}
 use Rattle.whole.specs.Whole.{stateCount, cellCount}
-use Rattle.whole.specs.Refusing.{Lent, allRefusals, Fits}
+use Rattle.whole.specs.Refusing.{Lent, allRefusals, Suffices}
 use Rattle.build.specs.Outcome.{refused, made, refusal, countsOf, outcomeOf}
 use Rattle.build.specs.Promise.{Promise}
 use Rattle.table.specs.declared.Counts.{Counts}
@@ -23,7 +23,7 @@ use Rattle.build.specs.declared.Built.the-variants.{Made}
 -- when each answer is given
 pub record AnswerClaims (kind : ℕ) (bytes ends values : List ℕ) (slots : Lent) : Type 0 where
   -- a refusal is told exactly if it is the lowest that applies
-  pub told : (t : Told) → (outcomeOf kind bytes ends values slots ≡ refused t) ↔ (lowest (allRefusals kind bytes ends values slots) ≡ some t)
+  pub lowest-told : (t : Told) → (outcomeOf kind bytes ends values slots ≡ refused t) ↔ (lowest (allRefusals kind bytes ends values slots) ≡ some t)
   -- each number is told exactly when the condition of its row holds and none of a row before it does, 4 and 5 with their index
   pub exactly : (k : ℕ) → k < 8 → Exactly (allRefusals kind bytes ends values slots) k
   -- 6: the list is sound, and the trie states, root and dead counted, exceed the state slots lent
@@ -39,7 +39,7 @@ pub record AnswerClaims (kind : ℕ) (bytes ends values : List ℕ) (slots : Len
       × (cellCount (acceptedOf kind bytes ends) ≤ mostCells) × (slots .outputs < length (acceptedOf kind bytes ends)))
   -- a good build: the list is sound and the slots suffice
   pub good : (outcomeOf kind bytes ends values slots ≡ made (countsOf kind (acceptedOf kind bytes ends)))
-      ↔ (Sound kind bytes ends values × Fits (acceptedOf kind bytes ends) slots)
+      ↔ (Sound kind bytes ends values × Suffices (acceptedOf kind bytes ends) slots)
 
 -- two lots of tables are the same
 pub record Same (trie owns notes spots : List (List ℕ)) (base link output check depth : List ℕ) (outs : List (List ℕ))

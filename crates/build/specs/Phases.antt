@@ -20,7 +20,7 @@ use Rattle.placement.specs.declared.Blocks.the-variants.{Now, Full}
 use Rattle.cells.specs.Columns.{Blanks, Written}
 use Rattle.nfa.specs.Grown.{acceptedOf}
 use Rattle.whole.specs.Whole.{stateCount, layoutOf, cellCount, cellsOf, outputsOf}
-use Rattle.whole.specs.Refusing.{Lent, Fits}
+use Rattle.whole.specs.Refusing.{Lent, Suffices}
 use Rattle.build.specs.Outcome.{cellSlots, TableRefusal}
 use Rattle.wipe.specs.Wiped.{blank, blankRows}
 use Rattle.build.specs.declared.phases.Progress.{Progress}
@@ -94,7 +94,7 @@ pub record Prepared (kind : ℕ) (bytes ends values : List ℕ) (spots : List (L
 -- all is done, and these are the counts
 pub record AllDone (kind : ℕ) (bytes ends values : List ℕ) (slots : Lent) (base₀ link₀ output₀ check₀ depth₀ outs₀ : ℕ) (base link output check depth : List ℕ)
     (outs : List (List ℕ)) (accepted states blocks : ℕ) : Type 0 where
-  pub fits : Fits (acceptedOf kind bytes ends) slots
+  pub fits : Suffices (acceptedOf kind bytes ends) slots
   pub states-are : states ≡ stateCount (acceptedOf kind bytes ends)
   pub blocks-are : blocks ≡ (layoutOf (acceptedOf kind bytes ends)) .blocks
   pub filled : Filled (kindOf kind) (acceptedOf kind bytes ends) values base₀ link₀ output₀ check₀ depth₀ outs₀ base link output check depth outs accepted

@@ -5,7 +5,7 @@ use mathlib.Core.List.{List}
 use Prim.Native.Nat.{ℕ, _≤_}
 use lib.ListN.{length}
 use Rattle.paper.specs.Patterns.{Choice, longest, first, standard, leftmost, rows, accepted, Filled, Proper}
-use Rattle.paper.specs.Matches.{Found, told}
+use Rattle.paper.specs.Matches.{Occurrence, withPayloads}
 use Rattle.paper.proofs.Claims.{lists}
 use Rattle.list.specs.Limits.{mostText}
 use Rattle.list.specs.Kinds.{kindOf}
@@ -14,7 +14,7 @@ use Rattle.list.specs.Claims.{Bytes, Sound}
 use Rattle.list.proofs.Sound.{sound-filled}
 use Rattle.table.specs.Agrees.{Agrees}
 use Rattle.nfa.specs.Grown.{acceptedOf}
-use Rattle.whole.specs.Refusing.{Lent, Fits}
+use Rattle.whole.specs.Refusing.{Lent, Suffices}
 use Rattle.build.specs.Outcome.{Outcome, refused, made, outcomeOf}
 use Rattle.build.specs.Phases.{slotsOf}
 use Rattle.build.proofs.Claims.{good-told, answer-claims, build-claims}
@@ -38,7 +38,7 @@ module _ {kind : ℕ} {bytes ends values : List ℕ} (b : GoodBuild kind bytes e
   unfolding slots
   was-made = sym (b .promised .outcome-is) ∙ sym (b .promised .answered)
 
-  cause : Sound kind bytes ends values × Fits (acceptedOf kind bytes ends) slots
+  cause : Sound kind bytes ends values × Suffices (acceptedOf kind bytes ends) slots
   cause = good-told kind bytes ends values slots (b .counts) was-made
 
   filled : Filled (patternsOf bytes ends)
@@ -87,7 +87,7 @@ leftmost-day c bytes ends values text b B C short =
     = rw (← kind-of c) (agrees b B) in
     let D = meaning.claims .leftmost-holds (tablesLeft b) c ps values text (filled b) A C short in
     record {
-      leftmost-says = λ n. rw (kind-is b) (D .leftmost-says n ∙ ap (λ (l : List Found). thenEnd n (told (valueIn values) l)) (lists .same-list c ps text (filled b)));
+      leftmost-says = λ n. rw (kind-is b) (D .leftmost-says n ∙ ap (λ (l : List Occurrence). thenEnd n (withPayloads (valueIn values) l)) (lists .same-list c ps text (filled b)));
       leftmost-list = lists .leftmost-is c (rows ps) text (rows-proper ps (filled b));
     }
 

@@ -57,7 +57,7 @@ one-answer =
       fill = λ w T kind text v sheet₀ sheet' sheet'' r r' t p t' p'. (sheet.claims w T kind text v .one-answer (length sheet₀) r r' t t', p ∙ sym p');
       exported-build = λ kind bytes ends values entry exit exit' counts counts' r r' p q.
           let S = one-build kind bytes ends values entry exit exit' (p .built) (q .built) (p .promised) (q .promised) in
-          (p .numbered ∙ ap (λ (x : Built). numberOf (answer x)) (S .0) ∙ sym (q .numbered), p .told ∙ ap (λ (x : Built). beside (answer x)) (S .0) ∙ sym (q .told), S .1);
+          (p .numbered ∙ ap (λ (x : Built). numberOf (answer x)) (S .0) ∙ sym (q .numbered), p .beside-is ∙ ap (λ (x : Built). beside (answer x)) (S .0) ∙ sym (q .beside-is), S .1);
       exported-search = λ l sheet₀ sheet' sheet'' state pending place moves state' pending' place' moves' count count' r r' p q.
           (p .numbered ∙ sym (q .numbered), p .held ∙ sym (q .held), p .filled ∙ sym (q .filled), p .counted ∙ sym (q .counted));
     }

@@ -5,13 +5,13 @@ use Prim.Native.Nat.{ℕ, zero, suc, _≤_, _<_}
 use native.Mathlib.Omega.{arith}
 use native.Mathlib.Nat.{not-suc-le-zero, le-of-suc-le-suc}
 use lib.ListN.{length, take, replicate}
-use Rattle.paper.specs.Matches.{Match, told, overlapping, plain, leftmostBy}
+use Rattle.paper.specs.Matches.{Match, withPayloads, overlapping, plain, leftmostBy}
 use Rattle.search.specs.declared.Search.{Search}
 use Rattle.search.specs.declared.Match as search
 use Rattle.search.specs.Values.{Which, Outcome, gives, ends, refuses, begun}
 use Rattle.search.specs.Searches.{nextOf}
 use Rattle.table.specs.Agrees.{Tables}
-use Rattle.sheet.specs.Sheet.{ended, recordOf, Load, stopping, before, onAnswer, loadOf, sheetOf}
+use Rattle.sheet.specs.Sheet.{ended, recordOf, Load, stopping, withRecord, onAnswer, loadOf, sheetOf}
 use Rattle.sheet.proofs.Beginning.{loads}
 use Rattle.meaning.specs.Repeated.{handedBack, answers, Saying, match, end, refusal, said, thenEnd}
 use Rattle.meaning.proofs.Repeating.{take-ends}
@@ -54,7 +54,7 @@ module _ (next : Search → Outcome) where
 
   -- one that says a match puts it before what follows
   at-match : (o : Outcome) (m : Match ℕ) (l : List (Match ℕ)) (goOn : Search → Load) → said o ≡ match m → Holds (goOn (handedBack o)) l
-      → Holds (onAnswer o (λ m' u. before (recordOf m') (goOn u))) (m ∷ l)
+      → Holds (onAnswer o (λ m' u. withRecord (recordOf m') (goOn u))) (m ∷ l)
   unfolding isEnd rowOf
   at-match (ends u) m l goOn e H = absurd (omega (arith, ap isEnd e))
   at-match (gives m' u) m l goOn e H = (ap rowOf' e ∙ ap (λ (r : List (List ℕ)). recordIn m ∷ r) (H .0), H .1)
@@ -66,7 +66,7 @@ module _ (next : Search → Outcome) where
   -- so many sayings of these matches and then the end are a load of them
   pub loaded : (n : ℕ) (v : Search) (l : List (Match ℕ)) → length l ≤ n → map said (answers next (suc n) v) ≡ thenEnd (suc n) l → Holds (loadOf next (suc n) v) l
   unfolding loadOf answers firstOf othersOf
-  loaded n v [] h e = at-end (next v) (λ m u. before (recordOf m) (loadOf next n u)) (ap firstOf e)
+  loaded n v [] h e = at-end (next v) (λ m u. withRecord (recordOf m) (loadOf next n u)) (ap firstOf e)
   loaded zero v (m ∷ l) h e = absurd (not-suc-le-zero h)
   loaded (suc n) v (m ∷ l) h e =
       at-match (next v) m l (λ u. loadOf next (suc n) u) (ap firstOf e)
@@ -84,9 +84,9 @@ pub sheets : SheetClaims
 sheets =
     record {
       overlapping-sheet = λ bytes ends values text b B C short.
-          spare _ _ _ text (told (valueIn values) (overlapping (listed bytes ends) text)) (day.claims .standard-day bytes ends values text b B C short .overlapping-says);
+          spare _ _ _ text (withPayloads (valueIn values) (overlapping (listed bytes ends) text)) (day.claims .standard-day bytes ends values text b B C short .overlapping-says);
       plain-sheet = λ bytes ends values text b B C short.
-          spare _ _ _ text (told (valueIn values) (plain (listed bytes ends) text)) (day.claims .standard-day bytes ends values text b B C short .plain-says);
+          spare _ _ _ text (withPayloads (valueIn values) (plain (listed bytes ends) text)) (day.claims .standard-day bytes ends values text b B C short .plain-says);
       leftmost-sheet = λ c bytes ends values text b B C short.
-          spare _ _ _ text (told (valueIn values) (leftmostBy c (listed bytes ends) text)) (day.claims .leftmost-day c bytes ends values text b B C short .leftmost-says);
+          spare _ _ _ text (withPayloads (valueIn values) (leftmostBy c (listed bytes ends) text)) (day.claims .leftmost-day c bytes ends values text b B C short .leftmost-says);
     }

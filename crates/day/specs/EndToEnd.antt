@@ -6,7 +6,7 @@ use mathlib.Core.List.{List, map, List·Memᴰ}
 use Prim.Native.Nat.{ℕ, _≤_}
 use lib.ListN.{length, take}
 use Rattle.paper.specs.Patterns.{Entry, Choice, standard, rows}
-use Rattle.paper.specs.Matches.{told, overlapping, plain, leftmostBy, Overlapping, Chosen, ByEnd, Leftmost}
+use Rattle.paper.specs.Matches.{withPayloads, overlapping, plain, leftmostBy, Overlapping, Chosen, ByEnd, Leftmost}
 use Rattle.paper.specs.Automaton.{machine, walk, fresh, never, puttingOut}
 use Rattle.list.specs.Limits.{mostText}
 use Rattle.list.specs.Listed.{patternsOf}
@@ -64,11 +64,11 @@ listed bytes ends = rows (patternsOf bytes ends)
 pub record StandardDay {bytes ends values : List ℕ} (b : GoodBuild 0 bytes ends values) (text : List ℕ) : Type 0 where
   -- overlapping search says the overlapping list of the listed patterns with their values, and then the end: no refusal ever
   pub overlapping-says : (n : ℕ)
-      → map said (calls b search.overlapping text n) ≡ thenEnd n (told (valueIn values) (overlapping (listed bytes ends) text))
+      → map said (calls b search.overlapping text n) ≡ thenEnd n (withPayloads (valueIn values) (overlapping (listed bytes ends) text))
   -- which has exactly the occurrences, each once, by end, then longer first, then in list order
   pub overlapping-list : Overlapping (listed bytes ends) text (overlapping (listed bytes ends) text)
   -- plain search says the plain list, and then the end
-  pub plain-says : (n : ℕ) → map said (calls b search.plain text n) ≡ thenEnd n (told (valueIn values) (plain (listed bytes ends) text))
+  pub plain-says : (n : ℕ) → map said (calls b search.plain text n) ≡ thenEnd n (withPayloads (valueIn values) (plain (listed bytes ends) text))
   -- which has, of the occurrences that start at p or later, the smallest end, then the longest, then the earliest listed; p becomes its end
   pub plain-list : Chosen ByEnd (listed bytes ends) text 0 (plain (listed bytes ends) text)
   -- the moves in every answer of overlapping search are those of the paper's walk over the bytes taken so far
@@ -85,7 +85,7 @@ pub record StandardDay {bytes ends values : List ℕ} (b : GoodBuild 0 bytes end
 -- after a build of a leftmost kind
 pub record LeftmostDay (c : Choice) {bytes ends values : List ℕ} (b : GoodBuild (kindNumber c) bytes ends values) (text : List ℕ) : Type 0 where
   -- leftmost search says the leftmost list of its kind of all listed patterns, also of those that LeftmostFirst drops, and then the end
-  pub leftmost-says : (n : ℕ) → map said (calls b search.leftmost text n) ≡ thenEnd n (told (valueIn values) (leftmostBy c (listed bytes ends) text))
+  pub leftmost-says : (n : ℕ) → map said (calls b search.leftmost text n) ≡ thenEnd n (withPayloads (valueIn values) (leftmostBy c (listed bytes ends) text))
   -- which has, of the occurrences that start at p or later, the smallest start, then the longest or the earliest listed; p becomes its end
   pub leftmost-list : Chosen (Leftmost c) (listed bytes ends) text 0 (leftmostBy c (listed bytes ends) text)
 

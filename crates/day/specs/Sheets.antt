@@ -4,7 +4,7 @@ use mathlib.Core.List.{List, [], _∷_, map}
 use Prim.Native.Nat.{ℕ, _≤_, _<_}
 use lib.ListN.{length}
 use Rattle.paper.specs.Patterns.{Choice}
-use Rattle.paper.specs.Matches.{Match, told, overlapping, plain, leftmostBy}
+use Rattle.paper.specs.Matches.{Match, withPayloads, overlapping, plain, leftmostBy}
 use Rattle.list.specs.Limits.{mostText}
 use Rattle.list.specs.Claims.{Bytes}
 use Rattle.search.specs.Values as search
@@ -30,15 +30,15 @@ pub record SheetClaims : Type 0 where
   -- kind 0: the overlapping list, and the plain one
   pub overlapping-sheet : (bytes ends values text : List ℕ) (b : GoodBuild 0 bytes ends values) → Bytes bytes → Bytes text → length text ≤ mostText
       → (slots : ℕ)
-      → length (told (valueIn values) (overlapping (listed bytes ends) text)) < slots
-      → Holds (sheet b search.overlapping text slots) (told (valueIn values) (overlapping (listed bytes ends) text))
+      → length (withPayloads (valueIn values) (overlapping (listed bytes ends) text)) < slots
+      → Holds (sheet b search.overlapping text slots) (withPayloads (valueIn values) (overlapping (listed bytes ends) text))
   pub plain-sheet : (bytes ends values text : List ℕ) (b : GoodBuild 0 bytes ends values) → Bytes bytes → Bytes text → length text ≤ mostText
       → (slots : ℕ)
-      → length (told (valueIn values) (plain (listed bytes ends) text)) < slots
-      → Holds (sheet b search.plain text slots) (told (valueIn values) (plain (listed bytes ends) text))
+      → length (withPayloads (valueIn values) (plain (listed bytes ends) text)) < slots
+      → Holds (sheet b search.plain text slots) (withPayloads (valueIn values) (plain (listed bytes ends) text))
   -- kinds 1 and 2: the leftmost list
   pub leftmost-sheet : (c : Choice) (bytes ends values text : List ℕ) (b : GoodBuild (kindNumber c) bytes ends values) → Bytes bytes → Bytes text
       → length text ≤ mostText
       → (slots : ℕ)
-      → length (told (valueIn values) (leftmostBy c (listed bytes ends) text)) < slots
-      → Holds (sheet b search.leftmost text slots) (told (valueIn values) (leftmostBy c (listed bytes ends) text))
+      → length (withPayloads (valueIn values) (leftmostBy c (listed bytes ends) text)) < slots
+      → Holds (sheet b search.leftmost text slots) (withPayloads (valueIn values) (leftmostBy c (listed bytes ends) text))

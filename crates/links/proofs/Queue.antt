@@ -24,7 +24,7 @@ use Rattle.trie.proofs.Walks.{agree}
 use Rattle.trie.proofs.Seeking.{least-label, least-kid, least-next}
 use Rattle.links.specs.Notes.{Notes}
 use Rattle.links.specs.Linked.{Named, Leads, ordered, Linked}
-use Rattle.links.specs.Queue.{ns, M, B, begun, Final, Hunted, Ordered, Queued}
+use Rattle.links.specs.Queue.{ns, M, B, queuedBefore, Final, Hunted, Ordered, Queued}
 use Rattle.trie.proofs.Kids.{kidsFrom, kids-all, kids-none, kids-some}
 use Rattle.links.proofs.States.{numbered, kid-state, kid-named, named-once, root-named, named-root}
 
@@ -34,10 +34,10 @@ module _ (kind : Kind) (es : List Entry) where
     pub least : Least alphabet (ns kind es) (getD (B kind es) h []) lo t
     pub done : List (List ℕ)
     pub split : kids alphabet (isState es) (getD (B kind es) h []) ≡ done ++ kidsFrom alphabet (isState es) (getD (B kind es) h []) lo
-    pub count : end ≡ length (begun kind es h) + length done
+    pub count : end ≡ length (queuedBefore kind es h) + length done
     pub order : Ordered kind es N end
     pub final : Final kind es N (take (suc h) (B kind es))
-    pub hunted : Hunted kind es N (begun kind es h ++ done)
+    pub hunted : Hunted kind es N (queuedBefore kind es h ++ done)
 
 -- what is among the first is among more of the first
 pub take-more : {A : Type 0} {x : A} (h i : ℕ) (l : List A) → h ≤ i → List·Memᴰ x (take h l) → List·Memᴰ x (take i l)
@@ -52,30 +52,30 @@ module _ (kind : Kind) (es : List Entry) (K : Slots) (I : Trie alphabet K (names
   -- ---- places of the order
 
   -- what has been put into the queue is no more than the order
-  pub begun-fits : (h : ℕ) → length (begun kind es h) ≤ length (B kind es)
+  pub begun-fits : (h : ℕ) → length (queuedBefore kind es h) ≤ length (B kind es)
   begun-fits h = begun-length alphabet mostBytes (isState es) L h
 
   -- the queue is the first part of the order
-  at-begun : (h i : ℕ) → i < length (begun kind es h) → getD (B kind es) i [] ≡ getD (begun kind es h) i []
+  at-begun : (h i : ℕ) → i < length (queuedBefore kind es h) → getD (B kind es) i [] ≡ getD (queuedBefore kind es h) i []
   at-begun h i l =
-      sym (getD-take (length (begun kind es h)) (B kind es) i [] l) ∙ ap (λ (x : List (List ℕ)). getD x i []) (sym (begun-is alphabet mostBytes (isState es) L h))
+      sym (getD-take (length (queuedBefore kind es h)) (B kind es) i [] l) ∙ ap (λ (x : List (List ℕ)). getD x i []) (sym (begun-is alphabet mostBytes (isState es) L h))
 
-  pub begun-next : (h : ℕ) → h < length (B kind es) → begun kind es (suc h) ≡ begun kind es h ++ kids alphabet (isState es) (getD (B kind es) h [])
+  pub begun-next : (h : ℕ) → h < length (B kind es) → queuedBefore kind es (suc h) ≡ queuedBefore kind es h ++ kids alphabet (isState es) (getD (B kind es) h [])
   begun-next h l = ap (λ (x : List (List ℕ)). [] ∷ x) (below-take-suc alphabet (isState es) (B kind es) h l)
 
   -- the child after `done` stands right behind them
   next-place : (h : ℕ) (done rest : List (List ℕ)) (w : List ℕ) → h < length (B kind es) → kids alphabet (isState es) (getD (B kind es) h []) ≡ done ++ (w ∷ rest)
-      → (length (begun kind es h) + length done < length (B kind es)) × (getD (B kind es) (length (begun kind es h) + length done) [] ≡ w)
+      → (length (queuedBefore kind es h) + length done < length (B kind es)) × (getD (B kind es) (length (queuedBefore kind es h) + length done) [] ≡ w)
   next-place h done rest w l e =
-      let all : begun kind es (suc h) ≡ begun kind es h ++ done ++ (w ∷ rest)
-      = begun-next h l ∙ ap (λ (x : List (List ℕ)). begun kind es h ++ x) e ∙ sym (append-assoc (begun kind es h) done (w ∷ rest)) in
-      let n : length (begun kind es h ++ done) ≡ length (begun kind es h) + length done = length-append (begun kind es h) done in
-      let inside : length (begun kind es h) + length done < length (begun kind es (suc h))
-      = omega (arith, ap length all, length-append (begun kind es h ++ done) (w ∷ rest), n) in (
+      let all : queuedBefore kind es (suc h) ≡ queuedBefore kind es h ++ done ++ (w ∷ rest)
+      = begun-next h l ∙ ap (λ (x : List (List ℕ)). queuedBefore kind es h ++ x) e ∙ sym (append-assoc (queuedBefore kind es h) done (w ∷ rest)) in
+      let n : length (queuedBefore kind es h ++ done) ≡ length (queuedBefore kind es h) + length done = length-append (queuedBefore kind es h) done in
+      let inside : length (queuedBefore kind es h) + length done < length (queuedBefore kind es (suc h))
+      = omega (arith, ap length all, length-append (queuedBefore kind es h ++ done) (w ∷ rest), n) in (
         omega (arith, inside, begun-fits (suc h)),
-        at-begun (suc h) (length (begun kind es h) + length done) inside
+        at-begun (suc h) (length (queuedBefore kind es h) + length done) inside
             ∙ ap₂ (λ (x : List (List ℕ)) (i : ℕ). getD x i []) all (sym n)
-            ∙ getD-append-seam (begun kind es h ++ done) w rest [],
+            ∙ getD-append-seam (queuedBefore kind es h ++ done) w rest [],
       )
 
   -- what stands at a later place is not among the first
@@ -100,7 +100,7 @@ module _ (kind : Kind) (es : List Entry) (K : Slots) (I : Trie alphabet K (names
         count = omega (arith, Q .count);
         order = Q .order;
         final = final;
-        hunted = subst (λ (x : List (List ℕ)). Hunted kind es N x) (sym (append-nil (begun kind es h))) (Q .hunted);
+        hunted = subst (λ (x : List (List ℕ)). Hunted kind es N x) (sym (append-nil (queuedBefore kind es h))) (Q .hunted);
       }
 
   module _ (N : Notes) (h lo t end : ℕ) (A : Linking kind es N h lo t end) (l : h < length (B kind es)) where
@@ -171,7 +171,7 @@ module _ (kind : Kind) (es : List Entry) (K : Slots) (I : Trie alphabet K (names
                 | no e ↦ rw (link-old k e) (A .final k b z m)
               ]
 
-          hunted : Hunted kind es O (begun kind es h ++ (A .done ++ (snoc u (K .label t) ∷ [])))
+          hunted : Hunted kind es O (queuedBefore kind es h ++ (A .done ++ (snoc u (K .label t) ∷ [])))
           hunted k b z m q =
               elim (ℕ-discrete k t) [
                 | yes e ↦
@@ -181,18 +181,18 @@ module _ (kind : Kind) (es : List Entry) (K : Slots) (I : Trie alphabet K (names
                     rw (link-old k e)
                     (⊎-elim (λ i. A .hunted k b z i q)
                     (λ i. absurd (⊎-elim (λ f. e (named-once es K I L (record { inside = b; apart = z; is = f }) next-named)) (λ j. List·Memᴰ·not-nil j) (List·Memᴰ·cases-cons i)))
-                    (List·Memᴰ·append-cases (begun kind es h ++ A .done)
-                    (subst (λ (x : List (List ℕ)). List·Memᴰ (getD (ns kind es) k []) x) (sym (append-assoc (begun kind es h) (A .done) (snoc u (K .label t) ∷ []))) m)))
+                    (List·Memᴰ·append-cases (queuedBefore kind es h ++ A .done)
+                    (subst (λ (x : List (List ℕ)). List·Memᴰ (getD (ns kind es) k []) x) (sym (append-assoc (queuedBefore kind es h) (A .done) (snoc u (K .label t) ∷ []))) m)))
               ]
 
     -- no child is left
     pub linking-close : t ≡ 0 → Queued kind es N (suc h) end
     linking-close z =
         let none = kids-none alphabet (isState es) (ns kind es) (agree es) (A .least) z in
-        let all : begun kind es (suc h) ≡ begun kind es h ++ A .done
-        = begun-next h l ∙ ap (λ (x : List (List ℕ)). begun kind es h ++ x) (A .split ∙ rw none (append-nil (A .done))) in
+        let all : queuedBefore kind es (suc h) ≡ queuedBefore kind es h ++ A .done
+        = begun-next h l ∙ ap (λ (x : List (List ℕ)). queuedBefore kind es h ++ x) (A .split ∙ rw none (append-nil (A .done))) in
         record {
-          count = omega (arith, A .count, ap length all, length-append (begun kind es h) (A .done));
+          count = omega (arith, A .count, ap length all, length-append (queuedBefore kind es h) (A .done));
           order = A .order;
           final = A .final;
           hunted = subst (λ (x : List (List ℕ)). Hunted kind es N x) (sym all) (A .hunted);
@@ -219,10 +219,10 @@ module _ (kind : Kind) (es : List Entry) (K : Slots) (I : Trie alphabet K (names
     inside = in-order N h tail Q l
 
     -- the state at h is in the queue
-    queued : List·Memᴰ (getD (ns kind es) s []) (begun kind es h)
+    queued : List·Memᴰ (getD (ns kind es) s []) (queuedBefore kind es h)
     queued =
-        subst (λ (w : List ℕ). List·Memᴰ w (begun kind es h)) (sym (at-begun h h (omega (arith, Q .count))) ∙ sym (named .is))
-        (get-member (begun kind es h) h [] (omega (arith, Q .count)))
+        subst (λ (w : List ℕ). List·Memᴰ w (queuedBefore kind es h)) (sym (at-begun h h (omega (arith, Q .count))) ∙ sym (named .is))
+        (get-member (queuedBefore kind es h) h [] (omega (arith, Q .count)))
 
     pub stop-not : M kind es .stops (getD (B kind es) h []) ≡ false → Final kind es N (take (suc h) (B kind es))
     stop-not z =

@@ -17,7 +17,7 @@ use Rattle.plan.proofs.Breadth.{breadth-below}
 use Rattle.trie.specs.Trie.{slotsOf}
 use Rattle.links.specs.Notes.{Notes, notesOf}
 use Rattle.links.specs.Linked.{Named, ordered, Linked}
-use Rattle.links.specs.Queue.{begun, Queued, Ready, Turn, Poised}
+use Rattle.links.specs.Queue.{queuedBefore, Queued, Ready, Turn, Poised}
 use Rattle.links.proofs.States.{root-named}
 use Rattle.links.proofs.Queue.{later-not, in-order, begun-next, final-next, queued-root, queued-all}
 use Rattle.links.proofs.Walking.{order-fits}
@@ -42,7 +42,7 @@ module _ {kind : Kind} {es : List Entry} {trie : List (List ℕ)} {room : ℕ} (
         Q .count,
         P .count,
         ap length (begun-next kind es (slotsOf trie) (R .trie) (bounded R) h (in-order kind es (slotsOf trie) (R .trie) (bounded R) N h tail Q l)),
-        length-append (begun kind es h) (kids alphabet (isState es) (getD (ordered es) h [])),
+        length-append (queuedBefore kind es h) (kids alphabet (isState es) (getD (ordered es) h [])),
       )
 
   pub begins : {N : Notes} {tail : ℕ} → Queued kind es N 1 tail → 1 ≤ tail

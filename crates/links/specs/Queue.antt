@@ -28,8 +28,8 @@ module _ (kind : Kind) (es : List Entry) where
   B = ordered es
 
   -- the states that were put into the queue before the children of the one at h
-  abbrev pub begun : ℕ → List (List ℕ)
-  begun h = [] ∷ below alphabet (isState es) (take h (ordered es))
+  abbrev pub queuedBefore : ℕ → List (List ℕ)
+  queuedBefore h = [] ∷ below alphabet (isState es) (take h (ordered es))
 
   -- the link of each state of a list is noted
   abbrev pub Final : Notes → List (List ℕ) → Type 0
@@ -48,10 +48,10 @@ module _ (kind : Kind) (es : List Entry) where
 
   -- before the state at h is taken from the queue
   pub record Queued (N : Notes) (h tail : ℕ) : Type 0 where
-    pub count : tail ≡ length (begun h)
+    pub count : tail ≡ length (queuedBefore h)
     pub order : Ordered N tail
     pub final : Final N (take h B)
-    pub hunted : Hunted N (begun h)
+    pub hunted : Hunted N (queuedBefore h)
 
 -- the trie of the accepted patterns stands, and there is a row of notes for each state
 pub record Ready (kind : Kind) (es : List Entry) (rows : List (List ℕ)) (room : ℕ) : Type 0 where

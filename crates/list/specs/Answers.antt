@@ -4,8 +4,8 @@ use Prim.Native.Nat.{ℕ}
 use Rattle.list.specs.Refusals.{Told}
 use Rattle.list.specs.declared.Listing.{Listing}
 use Rattle.list.specs.declared.Listing.the-variants.{Fine, BadKind, BadEnds, TooMany, Empty, TooLong}
-use Rattle.list.specs.declared.Found.{Found}
-use Rattle.list.specs.declared.Found.the-variants.{At, Nothing}
+use Rattle.list.specs.declared.Lookup.{Lookup}
+use Rattle.list.specs.declared.Lookup.the-variants.{At, Nothing}
 
 -- the number of a refusal and its index
 abbrev pub refused : ℕ → ℕ → Option Told
@@ -21,6 +21,6 @@ told (Empty i) = refused 4 i
 told (TooLong i) = refused 5 i
 
 -- the index that a search for a pattern found
-abbrev pub placed : Found → Option ℕ
+abbrev pub placed : Lookup → Option ℕ
 placed Nothing = none
 placed (At i) = some i

@@ -32,8 +32,8 @@ abbrev pub block : ℕ
 block = 256
 
 -- the blocks, counted from the last, in which a place is looked for
-abbrev pub window : ℕ
-window = 16
+abbrev pub windowBlocks : ℕ
+windowBlocks = 16
 
 -- the smaller of two: where slots lie in several slices, the shortest counts
 abbrev pub smaller : ℕ → ℕ → ℕ

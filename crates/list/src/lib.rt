@@ -29,7 +29,7 @@ pub enum Listing {
 }
 
 // The index of a pattern that was looked for.
-enum Found {
+enum Lookup {
     At(usize),
     Nothing,
 }
@@ -75,7 +75,7 @@ fn between(n: usize, least: usize, most: usize) -> bool
 }
 
 // The first pattern that has from `least` to `most` bytes. An empty one and one that is too long are both looked for here.
-fn first_sized(ends: &[u32], least: usize, most: usize) -> Found
+fn first_sized(ends: &[u32], least: usize, most: usize) -> Lookup
     requires { ⌜ falls 0 (now ends) ≡ false ⌝ }
     ensures { λ r. ⌜ ((bytes : List ℕ) → SoundEnds bytes (now (ends .entry))
         → placed r ≡ firstWhere (sized least most) (patternsOf bytes (now (ends .entry)))) ⌝ }
@@ -84,11 +84,11 @@ fn first_sized(ends: &[u32], least: usize, most: usize) -> Found
     while i < ends.len() {
         let size = pattern_end(ends, i) - pattern_start(ends, i);
         if between(size, least, most) {
-            return Found::At(i);
+            return Lookup::At(i);
         }
         i += 1;
     }
-    Found::Nothing
+    Lookup::Nothing
 }
 
 // The lowest refusal of 1 to 5 that applies, or `Fine`.
@@ -107,10 +107,10 @@ pub fn check_list(kind: u32, bytes: &[u8], ends: &[u32], values: &[u32]) -> List
     if MOST_LISTED < ends.len() {
         return Listing::TooMany;
     }
-    if let Found::At(i) = first_sized(ends, 0, 0) {
+    if let Lookup::At(i) = first_sized(ends, 0, 0) {
         return Listing::Empty(i as u32);
     }
-    if let Found::At(i) = first_sized(ends, MOST_BYTES + 1, bytes.len()) {
+    if let Lookup::At(i) = first_sized(ends, MOST_BYTES + 1, bytes.len()) {
         return Listing::TooLong(i as u32);
     }
     Listing::Fine

@@ -7,7 +7,7 @@ use Prim.Native.Nat.{ℕ, zero, suc, _+_, _≤_, _<_}
 use native.Mathlib.Omega.{arith}
 use lib.ListN.{length, drop, length-drop, drop-of-length-le}
 use Rattle.paper.specs.Patterns.{Entry, Choice, longest, first, leftmost, accepted, Filled}
-use Rattle.paper.specs.Matches.{Found, told}
+use Rattle.paper.specs.Matches.{Occurrence, withPayloads}
 use Rattle.paper.specs.Automaton.{Machine, machine, saysNext, saysLeftmost, onGiven}
 use Rattle.paper.proofs.Claims.{automaton}
 use Rattle.list.specs.Limits.{mostText, lastKind}
@@ -48,7 +48,7 @@ module _ (T : Tables) (choice : Choice) (es : List Entry) (values text : List �
       ∙ ap (answerIn values (length text)) (given-any M (drop p text) [] 0 m p none)
 
   -- a value at root has these matches left: what the paper's calls give from its place on, if their number is enough for the bytes there
-  record Left (v : Search) (l : List Found) : Type 0 where
+  record Left (v : Search) (l : List Occurrence) : Type 0 where
     place : ℕ
     calls : ℕ
     moves : ℕ
@@ -81,7 +81,7 @@ module _ (T : Tables) (choice : Choice) (es : List Entry) (values text : List �
       moved : ℕ
       moved = (saysNext M (walkAt [] m) p none (drop p text)) .moves
 
-      go : (o : Option Found) → Ends p (p + length (drop p text)) o
+      go : (o : Option Occurrence) → Ends p (p + length (drop p text)) o
           → Turn values Left (answerIn values (length text) o) ((onGiven o moved (λ f. saysLeftmost M n (f .end) moved text)) .matches)
       go none E = record { says = refl; leaves = left-none }
       go (some f) E =
@@ -98,11 +98,11 @@ module _ (T : Tables) (choice : Choice) (es : List Entry) (values text : List �
             };
           }
 
-  turns : (v : Search) (l : List Found) → Left v l → Turn values Left (next v) l
+  turns : (v : Search) (l : List Occurrence) → Left v l → Turn values Left (next v) l
   turns v l L = rw (L .value, L .list) (turn-at (L .place) (L .calls) (L .moves) (L .inside) (L .enough))
 
   -- so many calls from the beginning
-  calls-say : (n : ℕ) → map said (answers next n begun) ≡ thenEnd n (told (valueIn values) ((saysLeftmost M (suc (length text)) 0 0 text) .matches))
+  calls-say : (n : ℕ) → map said (answers next n begun) ≡ thenEnd n (withPayloads (valueIn values) ((saysLeftmost M (suc (length text)) 0 0 text) .matches))
   calls-say n =
       repeated values next Left turns n begun _
       (record { place = 0; calls = suc (length text); moves = 0; value = refl; inside = omega arith; enough = omega arith; list = refl })
@@ -116,5 +116,5 @@ pub leftmost-holds : (T : Tables) (c : Choice) (ps : List (List ℕ)) (values te
 leftmost-holds T c ps values text h A B short =
     record {
       leftmost-says = λ n. calls-say T c (accepted (leftmost c) ps) values text A B short n
-          ∙ ap (λ (l : List Found). thenEnd n (told (valueIn values) l)) (automaton .says-leftmost c ps text h);
+          ∙ ap (λ (l : List Occurrence). thenEnd n (withPayloads (valueIn values) l)) (automaton .says-leftmost c ps text h);
     }

@@ -10,13 +10,13 @@ use native.Mathlib.Omega.{arith}
 use lib.ListN.{length, drop, length-drop}
 use lib.Seq.{getD-drop, drop-drop}
 use Rattle.paper.specs.Patterns.{Entry, Choice, leftmost}
-use Rattle.paper.specs.Matches.{Found}
+use Rattle.paper.specs.Matches.{Occurrence}
 use Rattle.paper.specs.Automaton.{Machine, machine, Walk, step, chain, output, endAt, keeping}
 use Rattle.paper.proofs.Tests.{eq-eqb, ne-eqb}
 use Rattle.paper.proofs.Machines.{state-root}
 use Rattle.list.specs.Limits.{alphabet}
 use Rattle.list.specs.Claims.{Bytes}
-use Rattle.table.specs.Agrees.{Tables, Agrees, Tells, Chain, cellOf}
+use Rattle.table.specs.Agrees.{Tables, Agrees, GivesAt, Chain, stateCell}
 use Rattle.table.specs.declared.CellId.{CellId}
 use Rattle.table.specs.declared.Row.{Row}
 use Rattle.table.specs.declared.Shown.the-variants as shown
@@ -35,11 +35,11 @@ use Rattle.meaning.proofs.Lengths.{step-length, output-length}
 use Rattle.meaning.proofs.LeftmostPaper.{walkAt, given, given-end, given-none, given-root, given-on}
 
 -- a match of the paper with its row's value
-abbrev pub matchIn : List ℕ → Found → Match
+abbrev pub matchIn : List ℕ → Occurrence → Match
 matchIn values f = record { start = f .start; end = f .end; value = valueIn values (f .row) }
 
 -- the answer of a call that gives this match, or of one that gives none on a text of so many bytes
-abbrev pub answerIn : List ℕ → ℕ → Option Found → Outcome
+abbrev pub answerIn : List ℕ → ℕ → Option Occurrence → Outcome
 answerIn values size none = ends (afterLeftmost size)
 answerIn values size (some f) = gives (matchIn values f) (afterLeftmost (f .end))
 
@@ -62,12 +62,12 @@ module _ (T : Tables) (choice : Choice) (es : List Entry) (values : List ℕ) (A
   silent v e = readers.claims .ended (T .outs) (T .accepted) (v .output) (v .place) .1 e
 
   -- the first that is put out, with its value and its length
-  abbrev rowOf : (p : ℕ) (x : Entry) → Tells T values p x → Row
+  abbrev rowOf : (p : ℕ) (x : Entry) → GivesAt T values p x → Row
   rowOf p x t = record { value = valueIn values (x .row); length = length (x .word); next = t .next }
 
-  spoken : (v : Search) (x : Entry) (t : Tells T values (v .output) x) → length (x .word) ≤ v .place
+  spoken : (v : Search) (x : Entry) (t : GivesAt T values (v .output) x) → length (x .word) ≤ v .place
       → shownAt T v ≡ shown.Given (rowOf (v .output) x t)
-  spoken v x t h = t .told (v .place) h
+  spoken v x t h = t .given (v .place) h
 
   -- ---- a byte
 
@@ -94,7 +94,7 @@ module _ (T : Tables) (choice : Choice) (es : List Entry) (values : List ℕ) (A
   next w n v c H b =
       let S = steps T (leftmost choice) es values A w v c (H .at) b in
       record {
-        value = valueOf (cell (cellOf T ((step M w c) .state))) (S .place) (v .place + 1) ((step M w c) .moves);
+        value = valueOf (cell (stateCell T ((step M w c) .state))) (S .place) (v .place + 1) ((step M w c) .moves);
         gone = S .gone;
         here = record {
           at = record { state = S .state; there = refl; counted = refl };
@@ -107,7 +107,7 @@ module _ (T : Tables) (choice : Choice) (es : List Entry) (values : List ℕ) (A
   -- ---- with a match in hand
 
   -- the first that is put out is kept with its end
-  spoken-match : (w : Walk) (n : ℕ) (u : Search) (x : Entry) (t : Tells T values (u .output) x) → Here w n u
+  spoken-match : (w : Walk) (n : ℕ) (u : Search) (x : Entry) (t : GivesAt T values (u .output) x) → Here w n u
       → matchOf (rowOf (u .output) x t) (u .place) ≡ matchIn values (endAt n x)
   spoken-match w n u x t H = ap (matchOf (rowOf (u .output) x t)) (H .place)
 
@@ -118,7 +118,7 @@ module _ (T : Tables) (choice : Choice) (es : List Entry) (values : List ℕ) (A
 
     -- it is what the paper's call gives
     abbrev Keeps : List ℕ → Type 0
-    Keeps t = (w : Walk) (n : ℕ) (v : Search) (f : Found) → Here w n v → Bytes t
+    Keeps t = (w : Walk) (n : ℕ) (v : Search) (f : Occurrence) → Here w n v → Bytes t
         → kept (matchIn values f) v t ≡ answerIn values size (given M w n (some f) t)
 
     -- at the text's end it is the match in hand
@@ -137,7 +137,7 @@ module _ (T : Tables) (choice : Choice) (es : List Entry) (values : List ℕ) (A
         u : Search
         u = N .value
 
-        there : u .state .0 ≡ cellOf T ((step M w c) .state)
+        there : u .state .0 ≡ stateCell T ((step M w c) .state)
         there = ap (λ (i : CellId). i .0) (N .here .at .there)
 
         not-root : (x : ℕ) (s : List ℕ) → (step M w c) .state ≡ x ∷ s → u .state .0 ≡ root → ⊥
@@ -161,7 +161,7 @@ module _ (T : Tables) (choice : Choice) (es : List Entry) (values : List ℕ) (A
 
         go : (s : List ℕ) → (step M w c) .state ≡ s → kept (matchIn values f) v (c ∷ t) ≡ answerIn values size (given M w n (some f) (c ∷ t))
         go [] e =
-            let z : u .state .0 ≡ root = there ∙ ap (cellOf T) e ∙ cell-root T in
+            let z : u .state .0 ≡ root = there ∙ ap (stateCell T) e ∙ cell-root T in
             rw (N .gone, eq-eqb (u .state .0) root z, given-root M w n c f t e)
         go (x ∷ s) e = on x s e (output M ((step M w c) .state)) refl (N .shows)
 
@@ -191,7 +191,7 @@ module _ (T : Tables) (choice : Choice) (es : List Entry) (values : List ℕ) (A
 
     -- an output is kept, and the walk goes on with it in hand
     seek-output : (t : List ℕ) (w : Walk) (n : ℕ) (v : Search) → Left w n v t → (x : Entry)
-        → (s : Tells T values (v .output) x)
+        → (s : GivesAt T values (v .output) x)
         → atOutput search.leftmost T text origin (rowOf (v .output) x s) v ≡ answerIn values (length text) (given M w n (some (endAt n x)) t)
     seek-output t w n v L x s =
         let r : rest text v ≡ t = ap (λ (k : ℕ). drop k text) (L .here .place) ∙ L .left in

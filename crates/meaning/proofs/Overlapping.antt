@@ -8,7 +8,7 @@ use Prim.Native.Nat.{ℕ, suc, _*_, _-_, _≤_}
 use native.Mathlib.Omega.{arith}
 use lib.ListN.{length, take}
 use Rattle.paper.specs.Patterns.{Entry, standard}
-use Rattle.paper.specs.Matches.{Found, told, overlapping}
+use Rattle.paper.specs.Matches.{Occurrence, withPayloads, overlapping}
 use Rattle.paper.specs.Automaton.{Machine, machine, output, endAt, Walk, fresh, step, walk, never, saysAll}
 use Rattle.paper.proofs.Standard.{says-overlapping}
 use Rattle.list.specs.Limits.{mostText}
@@ -31,7 +31,7 @@ abbrev goesOn : List Entry → Bool
 goesOn xs = false
 
 -- what it has left to say: the entries that are still to give here, then what the walk over the bytes that are left puts out
-abbrev leftAll : List Entry → Walk → ℕ → List Entry → List ℕ → List Found
+abbrev leftAll : List Entry → Walk → ℕ → List Entry → List ℕ → List Occurrence
 leftAll es w n xs t = map (endAt n) xs ++ saysAll (machine standard es) w n t
 
 module _ (T : Tables) (es : List Entry) (values text : List ℕ) (A : Agrees T standard es values) (bytes : Bytes text) (short : length text ≤ mostText) where
@@ -42,7 +42,7 @@ module _ (T : Tables) (es : List Entry) (values text : List ℕ) (A : Agrees T s
   next v = nextOf search.overlapping T 0 text v
 
   -- a value has these matches left
-  record Left (v : Search) (l : List Found) : Type 0 where
+  record Left (v : Search) (l : List Occurrence) : Type 0 where
     walk : Walk
     entries : List Entry
     stands : Standing T es values text goesOn walk entries v
@@ -79,7 +79,7 @@ module _ (T : Tables) (es : List Entry) (values text : List ℕ) (A : Agrees T s
       }
 
   -- a call gives the first of what is left, or the end
-  turns : (v : Search) (l : List Found) → Left v l → Turn values Left (next v) l
+  turns : (v : Search) (l : List Occurrence) → Left v l → Turn values Left (next v) l
   turns v l L =
       let walks = unrefused search.overlapping T 0 text v (⊎-elim (λ e. omega (arith, e)) (λ e. omega (arith, e))) (omega arith) (A .rooms) short
       (fits T es values text A bytes goesOn refl (L .stands)) in
@@ -102,10 +102,10 @@ module _ (T : Tables) (es : List Entry) (values text : List ℕ) (A : Agrees T s
 
   -- ---- demands 2 and 3
 
-  pub says : (n : ℕ) → map said (answers next n begun) ≡ thenEnd n (told (valueIn values) (overlapping es text))
+  pub says : (n : ℕ) → map said (answers next n begun) ≡ thenEnd n (withPayloads (valueIn values) (overlapping es text))
   says n =
       repeated values next Left turns n begun (saysAll M fresh 0 text) begun-left
-      ∙ ap (λ (l : List Found). thenEnd n (told (valueIn values) l)) (says-overlapping es text)
+      ∙ ap (λ (l : List Occurrence). thenEnd n (withPayloads (valueIn values) l)) (says-overlapping es text)
 
   pub moves : (n : ℕ) (o : Outcome) → List·Memᴰ o (answers next n begun)
       → handedBack o .moves ≡ (walk M never fresh (take (handedBack o .place) text)) .moves

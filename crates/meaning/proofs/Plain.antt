@@ -9,7 +9,7 @@ use native.Mathlib.Omega.{arith}
 use lib.ListN.{length, take}
 use Rattle.paper.specs.Lists.{isNil}
 use Rattle.paper.specs.Patterns.{Entry, standard}
-use Rattle.paper.specs.Matches.{Found, told, plain}
+use Rattle.paper.specs.Matches.{Occurrence, withPayloads, plain}
 use Rattle.paper.specs.Automaton.{Machine, machine, output, endAt, Walk, fresh, step, walk, puttingOut, onFirst, saysPlain}
 use Rattle.paper.proofs.Plain.{says-plain}
 use Rattle.list.specs.Limits.{mostText}
@@ -36,7 +36,7 @@ abbrev atRootWith : ℕ → Walk
 atRootWith moves = record { state = []; moves = moves }
 
 -- what it has left to say: the first of the entries that are put out here and what the walk puts out from root on; without one, what it puts out from here on
-abbrev leftPlain : List Entry → Walk → ℕ → List Entry → List ℕ → List Found
+abbrev leftPlain : List Entry → Walk → ℕ → List Entry → List ℕ → List Occurrence
 leftPlain es w n xs t =
     onFirst xs (saysPlain (machine standard es) w n t) (λ x. endAt n x ∷ saysPlain (machine standard es) (atRootWith (w .moves)) n t)
 
@@ -55,7 +55,7 @@ module _ (T : Tables) (es : List Entry) (values text : List ℕ) (A : Agrees T s
   Stands = Standing T es values text beginsAgain
 
   -- a value has these matches left; between calls it has no output to give
-  record Left (v : Search) (l : List Found) : Type 0 where
+  record Left (v : Search) (l : List Occurrence) : Type 0 where
     walk : Walk
     stands : Stands walk [] v
     is : l ≡ saysPlain M walk (v .place) (rest text v)
@@ -86,7 +86,7 @@ module _ (T : Tables) (es : List Entry) (values text : List ℕ) (A : Agrees T s
       (ap atRootWith (H .at .counted) ∙ sym (restarts (byOutput beginsAgain es) w (H .asked)) ∙ H .walked)
 
   -- a call gives the first of what is left, or the end
-  turns : (v : Search) (l : List Found) → Left v l → Turn values Left (next v) l
+  turns : (v : Search) (l : List Occurrence) → Left v l → Turn values Left (next v) l
   turns v l L =
       let walks = unrefused search.plain T 0 text v (⊎-elim (λ e. omega (arith, e)) (λ e. omega (arith, e))) (omega arith) (A .rooms) short
       (fits T es values text A bytes beginsAgain refl (L .stands)) in
@@ -113,10 +113,10 @@ module _ (T : Tables) (es : List Entry) (values text : List ℕ) (A : Agrees T s
 
   -- ---- demands 2 and 3
 
-  pub says : (n : ℕ) → map said (answers next n begun) ≡ thenEnd n (told (valueIn values) (plain es text))
+  pub says : (n : ℕ) → map said (answers next n begun) ≡ thenEnd n (withPayloads (valueIn values) (plain es text))
   says n =
       repeated values next Left turns n begun (saysPlain M fresh 0 text) begun-left
-      ∙ ap (λ (l : List Found). thenEnd n (told (valueIn values) l)) (says-plain es text)
+      ∙ ap (λ (l : List Occurrence). thenEnd n (withPayloads (valueIn values) l)) (says-plain es text)
 
   pub moves : (n : ℕ) (o : Outcome) → List·Memᴰ o (answers next n begun)
       → handedBack o .moves ≡ (walk M (puttingOut M) fresh (take (handedBack o .place) text)) .moves

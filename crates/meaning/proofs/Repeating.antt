@@ -7,7 +7,7 @@ use Prim.Native.Nat.{ℕ, zero, suc, _≤_}
 use native.Mathlib.Omega.{arith}
 use native.Mathlib.Nat.{not-suc-le-zero}
 use lib.ListN.{take, replicate}
-use Rattle.paper.specs.Matches.{Found, Match, told}
+use Rattle.paper.specs.Matches.{Occurrence, Match, withPayloads}
 use Rattle.search.specs.declared.Search.{Search}
 use Rattle.search.specs.Values.{Outcome}
 use Rattle.meaning.specs.Repeated.{handedBack, answers, Saying, match, end, said, thenEnd}
@@ -19,13 +19,13 @@ firstSaid [] = end
 firstSaid (m ∷ l) = match m
 
 -- the others
-abbrev pub others : List Found → List Found
+abbrev pub others : List Occurrence → List Occurrence
 others [] = []
 others (f ∷ l) = l
 
 -- an answer says the first of what was left, and the value that it hands back has the others left
-pub record Turn (values : List ℕ) (Left : Search → List Found → Type 0) (o : Outcome) (l : List Found) : Type 0 where
-  pub says : said o ≡ firstSaid (told (valueIn values) l)
+pub record Turn (values : List ℕ) (Left : Search → List Occurrence → Type 0) (o : Outcome) (l : List Occurrence) : Type 0 where
+  pub says : said o ≡ firstSaid (withPayloads (valueIn values) l)
   pub leaves : Left (handedBack o) (others l)
 
 -- ---- the first n of a list with enough ends after it
@@ -37,17 +37,17 @@ take-ends (suc n) (suc k) [] h = ap (λ (r : List Saying). end ∷ r) (take-ends
 take-ends (suc n) (suc k) (s ∷ l) h = ap (λ (r : List Saying). s ∷ r) (take-ends n (suc k) l (omega arith))
 
 -- one call more says the first, and the calls after it the others
-then-more : (values : List ℕ) (n : ℕ) (l : List Found)
-    → firstSaid (told (valueIn values) l) ∷ thenEnd n (told (valueIn values) (others l)) ≡ thenEnd (suc n) (told (valueIn values) l)
+then-more : (values : List ℕ) (n : ℕ) (l : List Occurrence)
+    → firstSaid (withPayloads (valueIn values) l) ∷ thenEnd n (withPayloads (valueIn values) (others l)) ≡ thenEnd (suc n) (withPayloads (valueIn values) l)
 then-more values n [] = refl
-then-more values n (f ∷ l) = ap (λ (r : List Saying). firstSaid (told (valueIn values) (f ∷ l)) ∷ r) (sym (take-ends n n (map match (told (valueIn values) l)) (omega arith)))
+then-more values n (f ∷ l) = ap (λ (r : List Saying). firstSaid (withPayloads (valueIn values) (f ∷ l)) ∷ r) (sym (take-ends n n (map match (withPayloads (valueIn values) l)) (omega arith)))
 
 -- ---- calls in turn
 
-module _ (values : List ℕ) (next : Search → Outcome) (Left : Search → List Found → Type 0)
-    (turns : (v : Search) (l : List Found) → Left v l → Turn values Left (next v) l) where
+module _ (values : List ℕ) (next : Search → Outcome) (Left : Search → List Occurrence → Type 0)
+    (turns : (v : Search) (l : List Occurrence) → Left v l → Turn values Left (next v) l) where
   -- so many calls say what is left, then the end
-  pub repeated : (n : ℕ) (v : Search) (l : List Found) → Left v l → map said (answers next n v) ≡ thenEnd n (told (valueIn values) l)
+  pub repeated : (n : ℕ) (v : Search) (l : List Occurrence) → Left v l → map said (answers next n v) ≡ thenEnd n (withPayloads (valueIn values) l)
   unfolding answers
   repeated zero v l h = refl
   repeated (suc n) v l h =
@@ -55,7 +55,7 @@ module _ (values : List ℕ) (next : Search → Outcome) (Left : Search → List
       ap₂ (λ (s : Saying) (r : List Saying). s ∷ r) (t .says) (repeated n (handedBack (next v)) (others l) (t .leaves)) ∙ then-more values n l
 
   -- what holds of each value with something or nothing left holds of each value that is handed back
-  pub handed : (Holds : Search → Type 0) → ((v : Search) (l : List Found) → Left v l → Holds v) → (n : ℕ) (v : Search) (l : List Found) → Left v l
+  pub handed : (Holds : Search → Type 0) → ((v : Search) (l : List Occurrence) → Left v l → Holds v) → (n : ℕ) (v : Search) (l : List Occurrence) → Left v l
       → (o : Outcome) → List·Memᴰ o (answers next n v) → Holds (handedBack o)
   unfolding answers
   handed Holds holds zero v l h o m = absurd (List·Memᴰ·not-nil m)

@@ -12,13 +12,13 @@ use lib.ListN.{length, take, drop, getD, drop-of-length-le}
 use lib.Seq.{length-take-le, take-suc, drop-cons}
 use Rattle.paper.specs.Lists.{pick}
 use Rattle.paper.specs.Patterns.{Entry, standard}
-use Rattle.paper.specs.Matches.{Found}
+use Rattle.paper.specs.Matches.{Occurrence}
 use Rattle.paper.specs.Automaton.{Machine, machine, chain, output, Walk, fresh, step, walk}
 use Rattle.paper.proofs.Tests.{test, ltb-lt, ltb-le}
 use Rattle.paper.proofs.Moves.{moves-bound}
 use Rattle.paper.proofs.Machines.{state-root}
 use Rattle.list.specs.Claims.{Bytes}
-use Rattle.table.specs.Agrees.{Tables, Agrees, Chain, cellOf}
+use Rattle.table.specs.Agrees.{Tables, Agrees, Chain, stateCell}
 use Rattle.table.specs.declared.Row.{Row}
 use Rattle.table.specs.declared.Shown.the-variants as shown
 use Rattle.table.proofs.Agrees.{cell-root}
@@ -31,7 +31,7 @@ use Rattle.search.proofs.Named.{onTo, outputAt, endsAt}
 use Rattle.meaning.specs.Demands.{valueIn}
 use Rattle.meaning.proofs.Steps.{At, Stepping, steps}
 use Rattle.meaning.proofs.Lengths.{step-length, output-length}
-use Rattle.meaning.proofs.Unrefused.{Fits}
+use Rattle.meaning.proofs.Unrefused.{Admissible}
 
 -- ---- the paper's walk, a byte at a time
 
@@ -97,8 +97,8 @@ rowOf values x next = record { value = valueIn values (x .row); length = length 
 
 -- what the look for an output comes to from a value with l left to say: to the first of the entries that a value has to give, with the same left to
 -- say, or to the text's end, with nothing left
-pub data Comes (T : Tables) (es : List Entry) (values text : List ℕ) (begins : List Entry → Bool) (left : Walk → ℕ → List Entry → List ℕ → List Found)
-    (v : Search) (l : List Found) : Type 0 where
+pub data Comes (T : Tables) (es : List Entry) (values text : List ℕ) (begins : List Entry → Bool) (left : Walk → ℕ → List Entry → List ℕ → List Occurrence)
+    (v : Search) (l : List Occurrence) : Type 0 where
   to-output : (w : Walk) (x : Entry) (xs : List Entry) (u : Search) (H : Standing T es values text begins w (x ∷ xs) u)
       → seekOf false T v (rest text v) ≡ outputAt (rowOf values x (H .chain .0 .next)) u
       → l ≡ left w (u .place) (x ∷ xs) (rest text u)
@@ -128,7 +128,7 @@ module _ (T : Tables) (es : List Entry) (values text : List ℕ) (A : Agrees T s
   -- what is shown there: the first of the entries, or nothing
   shows-first : {w : Walk} {x : Entry} {xs : List Entry} {v : Search} (H : Stands w (x ∷ xs) v)
       → shownAt T v ≡ shown.Given (rowOf values x (H .chain .0 .next))
-  shows-first {x = x} {v = v} H = H .chain .0 .told (v .place) (H .fit x (List·Memᴰ·head refl))
+  shows-first {x = x} {v = v} H = H .chain .0 .given (v .place) (H .fit x (List·Memᴰ·head refl))
 
   shows-nothing : {w : Walk} {v : Search} → Stands w [] v → shownAt T v ≡ shown.Nothing
   shows-nothing {v = v} H = readers.claims .ended (T .outs) (T .accepted) (v .output) (v .place) .1 (H .chain)
@@ -141,7 +141,7 @@ module _ (T : Tables) (es : List Entry) (values text : List ℕ) (A : Agrees T s
       (shows-first H) .inside
 
   -- so a call on it is not refused
-  pub fits : {w : Walk} {xs : List Entry} {v : Search} → Stands w xs v → Fits T (length text) v
+  pub fits : {w : Walk} {xs : List Entry} {v : Search} → Stands w xs v → Admissible T (length text) v
   fits {w} {xs} {v} H =
       record {
         state = rw (H .at .there) (A .inside (w .state) (H .at .state));
@@ -185,7 +185,7 @@ module _ (T : Tables) (es : List Entry) (values text : List ℕ) (A : Agrees T s
 
     -- the value after it
     abbrev moved : Search
-    moved = valueOf (cell (cellOf T (next .state))) (went .place) (v .place + 1) (next .moves)
+    moved = valueOf (cell (stateCell T (next .state))) (went .place) (v .place + 1) (next .moves)
 
     next-shallow : length (next .state) ≤ v .place + 1
     next-shallow = omega (arith, step-length M w (byteAt v), H .shallow)
@@ -219,10 +219,10 @@ module _ (T : Tables) (es : List Entry) (values text : List ℕ) (A : Agrees T s
   -- ---- up to an output or the text's end
 
   -- what is left to say after n bytes, where the walk is and with these entries to give: nothing at the text's end, else it is so after the next byte
-  module _ (left : Walk → ℕ → List Entry → List ℕ → List Found)
+  module _ (left : Walk → ℕ → List Entry → List ℕ → List Occurrence)
       (left-end : (w : Walk) (n : ℕ) → left w n [] [] ≡ [])
       (left-on : (w : Walk) (n c : ℕ) (t : List ℕ) → left w n [] (c ∷ t) ≡ left (step M w c) (suc n) (output M ((step M w c) .state)) t) where
-    abbrev ComesTo : Search → List Found → Type 0
+    abbrev ComesTo : Search → List Occurrence → Type 0
     ComesTo = Comes T es values text begins left
 
     -- the value after a byte has the same left to say
@@ -232,7 +232,7 @@ module _ (T : Tables) (es : List Entry) (values text : List ℕ) (A : Agrees T s
     next-left {w} {v} H more =
         rw (drop-cons text (v .place) 0 more, add-one (v .place)) (left-on w (v .place) (byteAt v) (drop (suc (v .place)) text))
 
-    comes-back : {v u : Search} {l r : List Found} → seekOf false T v (rest text v) ≡ seekOf false T u (rest text u) → l ≡ r → ComesTo u r → ComesTo v l
+    comes-back : {v u : Search} {l r : List Occurrence} → seekOf false T v (rest text v) ≡ seekOf false T u (rest text u) → l ≡ r → ComesTo u r → ComesTo v l
     comes-back e k (to-output w x xs a H q d) = to-output w x xs a H (e ∙ q) (k ∙ d)
     comes-back e k (to-end w a H q d z) = to-end w a H (e ∙ q) (k ∙ d) (k ∙ z)
 

@@ -15,7 +15,7 @@ use Rattle.paper.proofs.Tests.{test, clash, and-right, eqb-eq, ne-eqb}
 use Rattle.paper.proofs.Longest.{longest-length, longest-is-state}
 use Rattle.paper.proofs.Machines.{machine-states, state-root, never-starts, never-before}
 use Rattle.list.specs.Limits.{alphabet}
-use Rattle.table.specs.Agrees.{Tables, Agrees, Chain, ChainOf, cellOf, probeIn, linkIn}
+use Rattle.table.specs.Agrees.{Tables, Agrees, Chain, ChainOf, stateCell, probeIn, linkIn}
 use Rattle.table.specs.declared.CellId.{CellId}
 use Rattle.table.specs.declared.Begins.{Begins}
 use Rattle.table.specs.declared.Begins.the-variants as begins
@@ -36,7 +36,7 @@ falls (leftmost c) = true
 -- a search value stands where a walk is: in the cell of its state, with its moves
 pub record At (T : Tables) (es : List Entry) (w : Walk) (v : Search) : Type 0 where
   pub state : isState es (w .state) ≡ true
-  pub there : v .state ≡ cell (cellOf T (w .state))
+  pub there : v .state ≡ cell (stateCell T (w .state))
   pub counted : v .moves ≡ w .moves
 
 -- what a step comes to: one byte further, where the walk is after the byte, with the chain of what is put out there still to give
@@ -44,7 +44,7 @@ pub record Stepping (T : Tables) (kind : Kind) (es : List Entry) (values : List 
   pub place : ℕ
   pub gone : stepOf (falls kind) T v c
       ≡ onTo
-      (valueOf (cell (cellOf T ((step (machine kind es) w c) .state))) place (v .place + 1) ((step (machine kind es) w c) .moves))
+      (valueOf (cell (stateCell T ((step (machine kind es) w c) .state))) place (v .place + 1) ((step (machine kind es) w c) .moves))
   pub shows : Chain T values place (output (machine kind es) ((step (machine kind es) w c) .state))
   pub state : isState es ((step (machine kind es) w c) .state) ≡ true
 
@@ -68,15 +68,15 @@ module _ (T : Tables) (kind : Kind) (es : List Entry) (values : List ℕ) (A : A
   S = isState es
 
   -- root's cell is no other state's
-  not-root : (x : ℕ) (xs : List ℕ) → S (x ∷ xs) ≡ true → cellOf T (x ∷ xs) ≡ root → ⊥
+  not-root : (x : ℕ) (xs : List ℕ) → S (x ∷ xs) ≡ true → stateCell T (x ∷ xs) ≡ root → ⊥
   not-root x xs h e = cons-nil (A .apart (x ∷ xs) [] h (state-root es) (e ∙ sym (cell-root T)))
     where
       cons-nil : x ∷ xs ≡ [] → ⊥
       cons-nil q = absurd (omega (arith, ap length q))
 
   -- no walk falls at a state
-  stays : (s : List ℕ) → S s ≡ true → fallsAt (falls kind) (cell (cellOf T s)) ≡ false
-  stays s h = rw (ne-eqb (cellOf T s) 1 (A .living s h)) (and-never (falls kind))
+  stays : (s : List ℕ) → S s ≡ true → fallsAt (falls kind) (cell (stateCell T s)) ≡ false
+  stays s h = rw (ne-eqb (stateCell T s) 1 (A .living s h)) (and-never (falls kind))
 
   -- a failure is a state, and shorter
   failed-state : (x : ℕ) (xs : List ℕ) → S (failure S (x ∷ xs)) ≡ true
@@ -96,13 +96,13 @@ module _ (T : Tables) (kind : Kind) (es : List Entry) (values : List ℕ) (A : A
   module _ (c : ℕ) (byte : c < alphabet) where
     -- at root, which has the byte or keeps root
     takes-root : (n m : ℕ)
-        → takeOf (suc n) (falls kind) (probeIn T) (linkIn T) (cell (cellOf T [])) c m
-        ≡ byteTaken (cell (cellOf T (landed ((atRoot S c) .found)))) (m + (atRoot S c) .links)
+        → takeOf (suc n) (falls kind) (probeIn T) (linkIn T) (cell (stateCell T [])) c m
+        ≡ byteTaken (cell (stateCell T (landed ((atRoot S c) .found)))) (m + (atRoot S c) .links)
     takes-root n m =
         let none : m ≡ m + 0 = omega arith in
         test (S (c ∷ []))
         (λ h. rw h
-        (at-child (falls kind) (probeIn T) (linkIn T) c n (cell (cellOf T [])) (cell (cellOf T (c ∷ []))) m (A .child [] c h) ∙ ap (byteTaken _) none))
+        (at-child (falls kind) (probeIn T) (linkIn T) c n (cell (stateCell T [])) (cell (stateCell T (c ∷ []))) m (A .child [] c h) ∙ ap (byteTaken _) none))
         (λ h.
         let nothing = rw (cell-root T) at (A .childless [] c (state-root es) byte h) in
         rw (h, cell-root T) (at-root (falls kind) (probeIn T) (linkIn T) c n (cell root) m nothing refl ∙ ap (byteTaken _) none))
@@ -110,31 +110,31 @@ module _ (T : Tables) (kind : Kind) (es : List Entry) (values : List ℕ) (A : A
     -- where the state has no such child: at a dead link the hunt ends at root, else it goes on from the failure
     module _ (x : ℕ) (xs : List ℕ) (h : S (x ∷ xs) ≡ true) (k : S (snoc (x ∷ xs) c) ≡ false) (n m : ℕ) where
       abbrev here : CellId
-      here = cell (cellOf T (x ∷ xs))
+      here = cell (stateCell T (x ∷ xs))
 
       takes-dead : isDead M (x ∷ xs) ≡ true
-          → takeOf (suc n) (falls kind) (probeIn T) (linkIn T) here c m ≡ byteTaken (cell (cellOf T [])) (m + 1)
+          → takeOf (suc n) (falls kind) (probeIn T) (linkIn T) here c m ≡ byteTaken (cell (stateCell T [])) (m + 1)
       unfolding link
       takes-dead d =
-          let linked : linkIn T (cellOf T (x ∷ xs)) ≡ linked.To (cell 1) = rw d at (A .links x xs h) in
+          let linked : linkIn T (stateCell T (x ∷ xs)) ≡ linked.To (cell 1) = rw d at (A .links x xs h) in
           rw (cell-root T)
           (at-dead (falls kind) (probeIn T) (linkIn T) c n here (cell 1) m (A .childless (x ∷ xs) c h byte k) (not-root x xs h) linked
           (rw (dead-falls kind es (x ∷ xs) d)))
 
       takes-on : isDead M (x ∷ xs) ≡ false
           → takeOf (suc n) (falls kind) (probeIn T) (linkIn T) here c m
-          ≡ takeOf n (falls kind) (probeIn T) (linkIn T) (cell (cellOf T (failure S (x ∷ xs)))) c (m + 1)
+          ≡ takeOf n (falls kind) (probeIn T) (linkIn T) (cell (stateCell T (failure S (x ∷ xs)))) c (m + 1)
       unfolding link
       takes-on d =
-          let linked : linkIn T (cellOf T (x ∷ xs)) ≡ linked.To (cell (cellOf T (failure S (x ∷ xs)))) = rw d at (A .links x xs h) in
-          at-link (falls kind) (probeIn T) (linkIn T) c n here (cell (cellOf T (failure S (x ∷ xs)))) m (A .childless (x ∷ xs) c h byte k) (not-root x xs h)
+          let linked : linkIn T (stateCell T (x ∷ xs)) ≡ linked.To (cell (stateCell T (failure S (x ∷ xs)))) = rw d at (A .links x xs h) in
+          at-link (falls kind) (probeIn T) (linkIn T) c n here (cell (stateCell T (failure S (x ∷ xs)))) m (A .childless (x ∷ xs) c h byte k) (not-root x xs h)
           linked
           (stays (failure S (x ∷ xs)) (failed-state x xs))
 
     -- a hunt by the tables ends where the automaton's does, after as many links
     takes : (n : ℕ) (s : List ℕ) (m : ℕ) → length s ≤ n → S s ≡ true
-        → takeOf (suc n) (falls kind) (probeIn T) (linkIn T) (cell (cellOf T s)) c m
-        ≡ byteTaken (cell (cellOf T (landed ((hunt S (link M) n s c) .found)))) (m + (hunt S (link M) n s c) .links)
+        → takeOf (suc n) (falls kind) (probeIn T) (linkIn T) (cell (stateCell T s)) c m
+        ≡ byteTaken (cell (stateCell T (landed ((hunt S (link M) n s c) .found)))) (m + (hunt S (link M) n s c) .links)
     unfolding hunt link
     takes zero [] m l h = takes-root zero m
     takes zero (x ∷ xs) m l h = absurd (not-suc-le-zero l)
@@ -142,7 +142,7 @@ module _ (T : Tables) (kind : Kind) (es : List Entry) (values : List ℕ) (A : A
     takes (suc n) (x ∷ xs) m l h =
         test (S (snoc (x ∷ xs) c))
         (λ k. let none : m ≡ m + 0 = omega arith in
-        rw k (at-child (falls kind) (probeIn T) (linkIn T) c (suc n) (cell (cellOf T (x ∷ xs))) (cell (cellOf T (snoc (x ∷ xs) c))) m (A .child (x ∷ xs) c k)
+        rw k (at-child (falls kind) (probeIn T) (linkIn T) c (suc n) (cell (stateCell T (x ∷ xs))) (cell (stateCell T (snoc (x ∷ xs) c))) m (A .child (x ∷ xs) c k)
         ∙ ap (byteTaken _) none))
         (λ k. rw k
         (test (isDead M (x ∷ xs)) (λ d. rw d (takes-dead x xs h k (suc n) m d))
@@ -170,31 +170,31 @@ module _ (T : Tables) (kind : Kind) (es : List Entry) (values : List ℕ) (A : A
 
   -- the byte is taken to where the walk goes, with its moves
   step-taken : (w : Walk) (v : Search) (c : ℕ) → At T es w v → c < alphabet
-      → takeIn (falls kind) T (v .state) c (v .moves) ≡ takenTo (cell (cellOf T ((step M w c) .state))) ((step M w c) .moves)
+      → takeIn (falls kind) T (v .state) c (v .moves) ≡ takenTo (cell (stateCell T ((step M w c) .state))) ((step M w c) .moves)
   unfolding step
   step-taken w v c a byte =
       let h = hunt S (link M) (length (w .state)) (w .state) c in
       let m : v .moves + h .links + 1 ≡ w .moves + suc (h .links) = omega (arith, a .counted) in
       rw (a .there, A .depths (w .state) (a .state))
-      (takes c byte (length (w .state)) (w .state) (v .moves) (omega arith) (a .state) ∙ ap (takenTo (cell (cellOf T (landed (h .found))))) m)
+      (takes c byte (length (w .state)) (w .state) (v .moves) (omega arith) (a .state) ∙ ap (takenTo (cell (stateCell T (landed (h .found))))) m)
 
   -- root puts nothing out
-  root-silent : (s : List ℕ) → S s ≡ true → cellOf T s ≡ root → output M s ≡ []
+  root-silent : (s : List ℕ) → S s ≡ true → stateCell T s ≡ root → output M s ≡ []
   unfolding chain
   root-silent s h e = rw (A .apart s [] h (state-root es) (e ∙ sym (cell-root T)))
 
   -- the outputs of a state begin with the chain of what is put out there
-  begins-chain : (s : List ℕ) → S s ≡ true → ChainOf T values (beginsIn (falls kind) T (cell (cellOf T s))) (output M s)
+  begins-chain : (s : List ℕ) → S s ≡ true → ChainOf T values (beginsIn (falls kind) T (cell (stateCell T s))) (output M s)
   begins-chain s h =
-      test (falls kind && eqb (cellOf T s) root)
-      (λ e. rw e (root-silent s h (eqb-eq (cellOf T s) root (and-right (falls kind) (eqb (cellOf T s) root) e))))
+      test (falls kind && eqb (stateCell T s) root)
+      (λ e. rw e (root-silent s h (eqb-eq (stateCell T s) root (and-right (falls kind) (eqb (stateCell T s) root) e))))
       (λ e. rw e (A .outputs s h))
 
   pub steps : (w : Walk) (v : Search) (c : ℕ) → At T es w v → c < alphabet → Stepping T kind es values w v c
   steps w v c a byte = go (beginsIn (falls kind) T to) refl (begins-chain ((step M w c) .state) (step-state w c))
     where
       to : CellId
-      to = cell (cellOf T ((step M w c) .state))
+      to = cell (stateCell T ((step M w c) .state))
 
       go : (b : Begins) → beginsIn (falls kind) T to ≡ b → ChainOf T values b (output M ((step M w c) .state)) → Stepping T kind es values w v c
       go (begins.At p) e k = record {

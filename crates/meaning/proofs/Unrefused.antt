@@ -12,13 +12,13 @@ use Rattle.search.specs.declared.Search.{Search}
 use Rattle.search.specs.Values.{Which}
 use Rattle.search.specs.Admission.{cellSlots}
 use Rattle.search.specs.Searches.{walkOf, nextOf}
-use Rattle.search.specs.Damage.{Shows, kind-above-two, accepted-above-slots, cells-above-slots, state-past-cells, output-past-outputs, place-past-text, moves-above-twice-place}
+use Rattle.search.specs.Damage.{ShowsAtFirst, kind-above-two, accepted-above-slots, cells-above-slots, state-past-cells, output-past-outputs, place-past-text, moves-above-twice-place}
 use Rattle.search.specs.Claims.{WrongKind}
 use Rattle.search.proofs.Entering.{Course, wrong, long, shows, walks, course}
 
 -- a value fits tables and a text of so many bytes: its state is a cell, its output place is one or none, its place lies in the text, and its
 -- moves are at most twice its place
-pub record Fits (T : Tables) (size : ℕ) (v : Search) : Type 0 where
+pub record Admissible (T : Tables) (size : ℕ) (v : Search) : Type 0 where
   pub state : v .state .0 < T .cells
   pub output : v .output ≤ T .accepted
   pub place : v .place ≤ size
@@ -36,7 +36,7 @@ slots-enough T R =
     (smaller-both (T .cells) _ _ (R .output-room) (smaller-both (T .cells) _ _ (R .check-room) (R .depth-room))))
 
 -- such a value shows no damage
-sound : (T : Tables) (kind size : ℕ) (v : Search) → kind ≤ lastKind → Rooms T → Fits T size v → Shows T kind size v → ⊥
+sound : (T : Tables) (kind size : ℕ) (v : Search) → kind ≤ lastKind → Rooms T → Admissible T size v → ShowsAtFirst T kind size v → ⊥
 sound T kind size v k R F (kind-above-two h) = omega arith
 sound T kind size v k R F (accepted-above-slots h) = omega (arith, R .outs-room)
 sound T kind size v k R F (cells-above-slots h) = omega (arith, slots-enough T R)
@@ -48,7 +48,7 @@ sound T kind size v k R F (moves-above-twice-place h) = omega (arith, F .moves)
 -- so the call walks
 pub unrefused : (w : Which) (T : Tables) (kind : ℕ) (text : List ℕ) (v : Search) → (WrongKind w kind → ⊥) → kind ≤ lastKind → Rooms T
     → length text ≤ mostText
-    → Fits T (length text) v
+    → Admissible T (length text) v
     → nextOf w T kind text v ≡ walkOf w T text v
 unrefused w T kind text v right k R short F = go (course w T kind text v)
   where

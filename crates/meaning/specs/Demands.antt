@@ -4,7 +4,7 @@ use mathlib.Core.List.{List, map, List·Memᴰ}
 use Prim.Native.Nat.{ℕ, _*_, _-_, _≤_}
 use lib.ListN.{length, take, getD}
 use Rattle.paper.specs.Patterns.{Entry, Choice, longest, first, standard, leftmost, accepted, Filled}
-use Rattle.paper.specs.Matches.{told, overlapping, plain, leftmostBy}
+use Rattle.paper.specs.Matches.{withPayloads, overlapping, plain, leftmostBy}
 use Rattle.paper.specs.Automaton.{machine, walk, fresh, never, puttingOut}
 use Rattle.list.specs.Limits.{mostText}
 use Rattle.list.specs.Claims.{Bytes}
@@ -31,9 +31,9 @@ Bounded text o = (handedBack o .place ≤ length text) × (handedBack o .moves �
 pub record StandardDemands (T : Tables) (es : List Entry) (values text : List ℕ) : Type 0 where
   -- demand 2: fresh overlapping search, called again and again, gives the overlapping list and then the end: no refusal ever
   pub overlapping-says : (n : ℕ)
-      → map said (answers (nextOf search.overlapping T 0 text) n begun) ≡ thenEnd n (told (valueIn values) (overlapping es text))
+      → map said (answers (nextOf search.overlapping T 0 text) n begun) ≡ thenEnd n (withPayloads (valueIn values) (overlapping es text))
   -- plain search gives the plain list and then the end
-  pub plain-says : (n : ℕ) → map said (answers (nextOf search.plain T 0 text) n begun) ≡ thenEnd n (told (valueIn values) (plain es text))
+  pub plain-says : (n : ℕ) → map said (answers (nextOf search.plain T 0 text) n begun) ≡ thenEnd n (withPayloads (valueIn values) (plain es text))
   -- demand 3: in every answer of overlapping search the moves are those of the paper's walk over the bytes taken so far
   pub overlapping-moves : (n : ℕ) (o : Outcome) → List·Memᴰ o (answers (nextOf search.overlapping T 0 text) n begun)
       → handedBack o .moves ≡ (walk (machine standard es) never fresh (take (handedBack o .place) text)) .moves
@@ -49,7 +49,7 @@ pub record LeftmostDemands (T : Tables) (c : Choice) (ps : List (List ℕ)) (val
   -- demand 2: fresh leftmost search gives the leftmost list of its kind and then the end
   pub leftmost-says : (n : ℕ)
       → map said (answers (nextOf search.leftmost T (kindNumber c) text) n begun)
-      ≡ thenEnd n (told (valueIn values) (leftmostBy c (accepted (leftmost c) ps) text))
+      ≡ thenEnd n (withPayloads (valueIn values) (leftmostBy c (accepted (leftmost c) ps) text))
 
 -- what is proved
 pub record MeaningClaims : Type 0 where

@@ -20,7 +20,7 @@ use Rattle.plan.proofs.Machines.{machine-quiet}
 use Rattle.links.specs.Linked.{ordered}
 use Rattle.outputs.specs.Rows.{outRow, outRows}
 use Rattle.outputs.specs.Placed.{allStored}
-use Rattle.outputs.specs.Claims.{Tells, StoredClaims, OutputClaims}
+use Rattle.outputs.specs.Claims.{RowsChained, StoredClaims, OutputClaims}
 use Rattle.outputs.proofs.Order.{listing, in-order}
 use Rattle.outputs.proofs.Noting.{still-linked}
 use Rattle.outputs.proofs.Storing.{storedTo}
@@ -96,12 +96,12 @@ row-is values outs rest p b h = row-at values outs rest (p - 1) (omega arith) �
 
 -- so the chain of rows tells what the chain of outputs lists
 pub tells-chained : (values : List ℕ) (outs : List Out) (rest : List (List ℕ)) (p : ℕ) (l : List Entry) → Chained outs p l
-    → Tells values (outRows values outs ++ rest) (length outs) p l
+    → RowsChained values (outRows values outs ++ rest) (length outs) p l
 tells-chained values outs rest p [] c = c
 tells-chained values outs rest p (x ∷ l) c =
-    let r = row-is values outs rest p (c .0 .begun) (c .0 .within) in (
+    let r = row-is values outs rest p (c .0 .some-place) (c .0 .within) in (
       record {
-        begun = c .0 .begun;
+        some-place = c .0 .some-place;
         within = c .0 .within;
         value = rw (r, c .0 .same-row);
         size = rw r (c .0 .same-size);

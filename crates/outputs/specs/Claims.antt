@@ -16,17 +16,17 @@ use Rattle.links.specs.Linked.{Linked}
 use Rattle.outputs.specs.Placed.{allStored, Tabled, Placed}
 
 -- the row at place p is one of the first `count`, it has the entry's value and length, and the next one's place is below p
-pub record Told (values : List ℕ) (outs : List (List ℕ)) (count p : ℕ) (x : Entry) : Type 0 where
-  pub begun : 0 < p
+pub record RowShows (values : List ℕ) (outs : List (List ℕ)) (count p : ℕ) (x : Entry) : Type 0 where
+  pub some-place : 0 < p
   pub within : p ≤ count
   pub value : field outs (p - 1) 0 ≡ getD values (x .row) 0
   pub size : field outs (p - 1) 1 ≡ length (x .word)
   pub falls : field outs (p - 1) 2 < p
 
 -- the chain of rows from a place tells these entries
-abbrev pub Tells : List ℕ → List (List ℕ) → ℕ → ℕ → List Entry → Type 0
-Tells values outs count p [] = p ≡ 0
-Tells values outs count p (x ∷ xs) = Told values outs count p x × Tells values outs count (field outs (p - 1) 2) xs
+abbrev pub RowsChained : List ℕ → List (List ℕ) → ℕ → ℕ → List Entry → Type 0
+RowsChained values outs count p [] = p ≡ 0
+RowsChained values outs count p (x ∷ xs) = RowShows values outs count p x × RowsChained values outs count (field outs (p - 1) 2) xs
 
 -- what is stored for the accepted patterns
 pub record StoredClaims (kind : Kind) (es : List Entry) : Type 0 where
@@ -42,7 +42,7 @@ pub record StoredClaims (kind : Kind) (es : List Entry) : Type 0 where
 pub record TableClaims (kind : Kind) (es : List Entry) (values : List ℕ) (notes outs : List (List ℕ)) (count : ℕ) : Type 0 where
   -- from a state's place the chain of rows tells exactly what the automaton puts out there; dead has none
   pub tells : (k : ℕ) → k < length (names alphabet es) → (k ≡ 1 → ⊥)
-      → Tells values outs count (field notes k 2) (output (machine kind es) (getD (names alphabet es) k []))
+      → RowsChained values outs count (field notes k 2) (output (machine kind es) (getD (names alphabet es) k []))
   -- the order and the links are still those of the patterns
   pub linked : Linked kind es (notesOf notes)
 

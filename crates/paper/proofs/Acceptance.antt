@@ -11,7 +11,7 @@ use lib.ListN.{length}
 use Rattle.paper.specs.Lists.{prefix, Sorted}
 use Rattle.paper.specs.Patterns.{Entry, Choice, longest, first, Kind, standard, leftmost, rowsFrom, rows, properPrefix, barred, keep}
 use Rattle.paper.specs.Patterns.{accepted, Filled, Proper}
-use Rattle.paper.specs.Matches.{occurs, Found, foundAt, byLength, byRow, apart, leftmostBy, Stands, ByLength, ByRow}
+use Rattle.paper.specs.Matches.{occurs, Occurrence, occurrenceAt, byLength, byRow, apart, leftmostBy, Stands, ByLength, ByRow}
 use Rattle.paper.proofs.Tests.{test, clash, not-true→false, and-left, and-right, and-both, or-cases, or-not-left, or-not-right}
 use Rattle.paper.proofs.Tests.{ltb-lt, lt-ltb}
 use Rattle.paper.proofs.Strings.{prefix-trans}
@@ -195,18 +195,18 @@ acceptance ps x = (
 -- ---- what is dropped changes no list
 
 -- whatever stands starts with something accepted that is listed no later
-covered : (ps : List (List ℕ)) (t : List ℕ) (g : Found) → Stands (rows ps) t g
-    → (h : Found) × Stands (accepted (leftmost first) ps) t h × (h .start ≡ g .start) × ((g ≡ h) ⊎ ByRow h g)
+covered : (ps : List (List ℕ)) (t : List ℕ) (g : Occurrence) → Stands (rows ps) t g
+    → (h : Occurrence) × Stands (accepted (leftmost first) ps) t h × (h .start ≡ g .start) × ((g ≡ h) ⊎ ByRow h g)
 covered ps t g st = ⊎-elim (λ k. (g, stands-relisted st k, refl, inl refl)) begun (accepted-or-begun ps (st .entry) (st .listed))
   where
     word : List ℕ
     word = st .entry .word
 
     begun : (y : Entry) × List·Memᴰ y (accepted (leftmost first) ps) × (y .row < st .entry .row) × (properPrefix (y .word) word ≡ true)
-        → (h : Found) × Stands (accepted (leftmost first) ps) t h × (h .start ≡ g .start) × ((g ≡ h) ⊎ ByRow h g)
+        → (h : Occurrence) × Stands (accepted (leftmost first) ps) t h × (h .start ≡ g .start) × ((g ≡ h) ⊎ ByRow h g)
     begun r =
         let begins = and-left (prefix (r .0 .word) word) (ltb (length (r .0 .word)) (length word)) (r .3) in (
-          foundAt (g .start) (r .0),
+          occurrenceAt (g .start) (r .0),
           found-stands (accepted (leftmost first) ps) t (g .start) (r .0) (r .1)
               (occurs-prefix (r .0 .word) word t (g .start) begins (st .occurring)),
           refl,
@@ -245,7 +245,7 @@ longer-earlier ps t s x y m n h k l =
         (occurs-nested (y .word) (x .word) t s k h (omega arith)) (lt-ltb (length (y .word)) (length (x .word)) l)
 
 -- so ByLength and ByRow agree on what stands
-by-length-by-row : (ps : List (List ℕ)) (t : List ℕ) (f g : Found) → Stands (accepted (leftmost first) ps) t f
+by-length-by-row : (ps : List (List ℕ)) (t : List ℕ) (f g : Occurrence) → Stands (accepted (leftmost first) ps) t f
     → Stands (accepted (leftmost first) ps) t g → ByLength f g → ByRow f g
 by-length-by-row ps t f g a b (inl l) = inl l
 by-length-by-row ps t f g a b (inr (e, inl l)) =
@@ -272,8 +272,8 @@ longest-is-first ps t filled =
     fit : Proper es
     fit = proper (leftmost first) ps filled
 
-    long : (f : Found) → List·Memᴰ f (byLength es t) ↔ Stands es t f
+    long : (f : Occurrence) → List·Memᴰ f (byLength es t) ↔ Stands es t f
     long = by-length-exact es t fit
 
-    row : (f : Found) → List·Memᴰ f (byRow es t) ↔ Stands es t f
+    row : (f : Occurrence) → List·Memᴰ f (byRow es t) ↔ Stands es t f
     row = by-row-exact es t fit

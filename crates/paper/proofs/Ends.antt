@@ -10,7 +10,7 @@ use lib.ListN.{length, take, drop, length-take, length-drop, take-append-drop}
 use lib.Seq.{take-add, drop-at, length-take-le, take-append-seam, drop-drop}
 use Rattle.paper.specs.Lists.{same, prefix, those, each}
 use Rattle.paper.specs.Patterns.{Entry, standard}
-use Rattle.paper.specs.Matches.{occurs, Found, foundAt, between, endingAt}
+use Rattle.paper.specs.Matches.{occurs, Occurrence, occurrenceAt, between, endingAt}
 use Rattle.paper.specs.Automaton.{machine, ownOf, endAt}
 use Rattle.paper.proofs.Tests.{test, true-both, and-left, and-right, and-both, eqb-eq, eq-eqb}
 use Rattle.paper.proofs.Strings.{same-eq, eq-same, prefix-append, prefix-rest}
@@ -61,7 +61,7 @@ pub own-between : (es : List Entry) (t : List ℕ) (s n : ℕ) → n ≤ length 
     → map (endAt n) (ownOf es (drop s (take n t))) ≡ between es t s n
 unfolding ownOf between
 own-between es t s n h k =
-    map-those (endAt n) (foundAt s) (λ x. same (x .word) (drop s (take n t))) (λ x. occurs (x .word) t s && eqb (s + length (x .word)) n) es
+    map-those (endAt n) (occurrenceAt s) (λ x. same (x .word) (drop s (take n t))) (λ x. occurs (x .word) t s && eqb (s + length (x .word)) n) es
     (λ x. suffix-test (x .word) t s n h k)
     (λ x e. let z = (suffix→occurs (x .word) t s n h k (same-eq (x .word) (drop s (take n t)) e)) .1 in
     let begin : n - length (x .word) ≡ s = omega (arith, z) in
@@ -88,7 +88,7 @@ endings-each es t n s (x ∷ xs) h z e =
     let own : map (endAt n) (ownOf es (x ∷ xs)) ≡ between es t s n
     = ap (λ (l : List ℕ). map (endAt n) (ownOf es l)) e ∙ own-between es t s n h (omega arith) in
     rw (never-starts es (x ∷ xs), map-append)
-    (ap₂ (λ (a b : List Found). a ++ b) own (endings-each es t n (suc s) xs h (omega arith) next))
+    (ap₂ (λ (a b : List Occurrence). a ++ b) own (endings-each es t n (suc s) xs h (omega arith) next))
 
 -- (B) at a place: all that ends there
 pub endings-here : (es : List Entry) (t : List ℕ) (n : ℕ) → n ≤ length t

@@ -13,7 +13,7 @@ use lib.ListN.{length, drop, length-drop}
 use lib.Seq.{drop-append-le}
 use Rattle.paper.specs.Lists.{pick, same, prefix, snoc, isNil, Sorted}
 use Rattle.paper.specs.Patterns.{Entry, Choice, leftmost, Proper}
-use Rattle.paper.specs.Matches.{occurs, Found, foundAt, ByLength}
+use Rattle.paper.specs.Matches.{occurs, Occurrence, occurrenceAt, ByLength}
 use Rattle.paper.specs.Automaton.{Machine, machine, isState, ownOf, longestState, before, chain, output, endAt, Walk, step, keeping, isSome, Given, giving, saysNext}
 use Rattle.paper.proofs.Tests.{test, clash, or-left, or-right}
 use Rattle.paper.proofs.Strings.{same-eq, same-refl, prefix-refl, prefix-append, prefix-length, prefix-of, prefix-same, prefix-trans, snoc-append, length-snoc}
@@ -60,20 +60,20 @@ entry-state (y ∷ es) x s m h =
 -- ---- occurrences in q, the text from p on
 
 -- g is an occurrence in q, and its places count from p
-pub record From (es : List Entry) (q : List ℕ) (p : ℕ) (g : Found) : Type 0 where
+pub record From (es : List Entry) (q : List ℕ) (p : ℕ) (g : Occurrence) : Type 0 where
   pub entry : Entry
   pub listed : List·Memᴰ entry es
   pub offset : ℕ
   pub lies : occurs (entry .word) q offset ≡ true
-  pub is : g ≡ foundAt (p + offset) entry
+  pub is : g ≡ occurrenceAt (p + offset) entry
 
 -- what is kept is the best of those that end within the first m bytes of q
-abbrev pub Kept : List Entry → List ℕ → ℕ → ℕ → Option Found → Type 0
-Kept es q p m none = (g : Found) → From es q p g → g .end ≤ p + m → ⊥
-Kept es q p m (some f) = From es q p f × (f .end ≤ p + m) × ((g : Found) → From es q p g → g .end ≤ p + m → (g ≡ f) ⊎ ByLength f g)
+abbrev pub Kept : List Entry → List ℕ → ℕ → ℕ → Option Occurrence → Type 0
+Kept es q p m none = (g : Occurrence) → From es q p g → g .end ≤ p + m → ⊥
+Kept es q p m (some f) = From es q p f × (f .end ≤ p + m) × ((g : Occurrence) → From es q p g → g .end ≤ p + m → (g ≡ f) ⊎ ByLength f g)
 
-not-before : (f g : Found) → (g ≡ f) ⊎ ByLength f g → f .start ≤ g .start
-not-before f g (inl e) = omega (arith, ap (λ (h : Found). h .start) e)
+not-before : (f g : Occurrence) → (g ≡ f) ⊎ ByLength f g → f .start ≤ g .start
+not-before f g (inl e) = omega (arith, ap (λ (h : Occurrence). h .start) e)
 not-before f g (inr (inl h)) = omega arith
 not-before f g (inr (inr h)) = omega (arith, h .0)
 
@@ -86,13 +86,13 @@ module _ (es : List Entry) (P : Proper es) where
       let k = P .filled x m in
       omega (arith, l, k, length-drop o q)
 
-  from-start : (q : List ℕ) (p : ℕ) (g : Found) (F : From es q p g) → g .start ≡ p + F .offset
-  from-start q p g F = ap (λ (h : Found). h .start) (F .is)
+  from-start : (q : List ℕ) (p : ℕ) (g : Occurrence) (F : From es q p g) → g .start ≡ p + F .offset
+  from-start q p g F = ap (λ (h : Occurrence). h .start) (F .is)
 
-  from-end : (q : List ℕ) (p : ℕ) (g : Found) (F : From es q p g) → g .end ≡ p + F .offset + length (F .entry .word)
-  from-end q p g F = ap (λ (h : Found). h .end) (F .is)
+  from-end : (q : List ℕ) (p : ℕ) (g : Occurrence) (F : From es q p g) → g .end ≡ p + F .offset + length (F .entry .word)
+  from-end q p g F = ap (λ (h : Occurrence). h .end) (F .is)
 
-  pub ends-inside : (q : List ℕ) (p : ℕ) (g : Found) → From es q p g → (g .start < g .end) × (g .end ≤ p + length q)
+  pub ends-inside : (q : List ℕ) (p : ℕ) (g : Occurrence) → From es q p g → (g .start < g .end) × (g .end ≤ p + length q)
   ends-inside q p g F =
       let l = lies-inside (F .entry) q (F .offset) (F .listed) (F .lies) in
       omega (arith, l, P .filled (F .entry) (F .listed), from-start q p g F, from-end q p g F)
@@ -119,7 +119,7 @@ module _ (es : List Entry) (P : Proper es) where
         let l = lies-inside x u o m h in
         rw (drop-append-le o u r (omega (arith, l))) (prefix-trans (x .word) (drop o u) (drop o u ++ r) h (prefix-append (drop o u) r))
 
-    from-read : (p : ℕ) (x : Entry) (o : ℕ) → List·Memᴰ x es → occurs (x .word) u o ≡ true → From es (u ++ r) p (foundAt (p + o) x)
+    from-read : (p : ℕ) (x : Entry) (o : ℕ) → List·Memᴰ x es → occurs (x .word) u o ≡ true → From es (u ++ r) p (occurrenceAt (p + o) x)
     from-read p x o m h = record { entry = x; listed = m; offset = o; lies = lies-on x o m h; is = refl }
 
   module _ (choice : Choice) (p : ℕ) where
@@ -139,8 +139,8 @@ module _ (es : List Entry) (P : Proper es) where
     entry-stops x m = own-some es (ownOf es (x .word)) (to-own es x m)
 
     -- if all that end later than m start after it, what is kept is the best of all
-    kept-final : (q : List ℕ) (m : ℕ) (f : Found) → Kept es q p m (some f)
-        → ((g : Found) → From es q p g → p + m < g .end → f .start < g .start) → Kept es q p (length q) (some f)
+    kept-final : (q : List ℕ) (m : ℕ) (f : Occurrence) → Kept es q p m (some f)
+        → ((g : Occurrence) → From es q p g → p + m < g .end → f .start < g .start) → Kept es q p (length q) (some f)
     kept-final q m f K later = (
       K .0,
       (ends-inside q p f (K .0)) .1,
@@ -148,7 +148,7 @@ module _ (es : List Entry) (P : Proper es) where
     )
 
     -- a state that is left at the end of u starts no earlier than the longest
-    left-late : (u r : List ℕ) (g : Found) (G : From es (u ++ r) p g) → G .offset ≤ length u → p + length u ≤ g .end
+    left-late : (u r : List ℕ) (g : Occurrence) (G : From es (u ++ r) p g) → G .offset ≤ length u → p + length u ≤ g .end
         → length u ≤ G .offset + length (longestState S u)
     left-late u r g G l k =
         let s = state-left u r (G .entry) (G .offset) (G .listed) l (omega (arith, from-end (u ++ r) p g G)) (G .lies) in
@@ -172,7 +172,7 @@ module _ (es : List Entry) (P : Proper es) where
         ]
 
     -- so what is kept starts no later than that, and is there; everything that ends later starts after it
-    fallen : (u : List ℕ) (b : ℕ) (r : List ℕ) (kept : Option Found) → before S (M .stops) (snoc u b) ≡ true
+    fallen : (u : List ℕ) (b : ℕ) (r : List ℕ) (kept : Option Occurrence) → before S (M .stops) (snoc u b) ≡ true
         → Kept es (snoc u b ++ r) p (length u) kept → Kept es (snoc u b ++ r) p (length (snoc u b ++ r)) kept × (isSome kept ≡ true)
     fallen u b r kept h K = go kept K
       where
@@ -185,39 +185,39 @@ module _ (es : List Entry) (P : Proper es) where
         ended : s .offset + length (e .0 .word) ≤ length u
         ended = omega (arith, sooner-ended (snoc u b) s (e .0) (e .1) (e .2), length-snoc u b)
 
-        witness : From es (snoc u b ++ r) p (foundAt (p + s .offset) (e .0))
+        witness : From es (snoc u b ++ r) p (occurrenceAt (p + s .offset) (e .0))
         witness = from-read (snoc u b) r p (e .0) (s .offset) (e .1) (rw (e .2) (s .lies))
 
-        later : (g : Found) → From es (snoc u b ++ r) p g → p + length u < g .end → p + s .offset < g .start
+        later : (g : Occurrence) → From es (snoc u b ++ r) p g → p + length u < g .end → p + s .offset < g .start
         later g G k =
             elim (decLt (length (snoc u b)) (G .offset)) [
               | yes l ↦ omega (arith, s .sooner, from-start (snoc u b ++ r) p g G)
               | no l ↦ omega (arith, s .sooner, from-start (snoc u b ++ r) p g G, left-late (snoc u b) r g G (omega arith) (omega (arith, length-snoc u b)))
             ]
 
-        go : (k : Option Found) → Kept es (snoc u b ++ r) p (length u) k
+        go : (k : Option Occurrence) → Kept es (snoc u b ++ r) p (length u) k
             → Kept es (snoc u b ++ r) p (length (snoc u b ++ r)) k × (isSome k ≡ true)
-        go none N = absurd (N (foundAt (p + s .offset) (e .0)) witness (omega (arith, ended)))
+        go none N = absurd (N (occurrenceAt (p + s .offset) (e .0)) witness (omega (arith, ended)))
         go (some f) N =
-            let first : f .start ≤ p + s .offset = not-before f (foundAt (p + s .offset) (e .0)) (N .2 _ witness (omega (arith, ended))) in
+            let first : f .start ≤ p + s .offset = not-before f (occurrenceAt (p + s .offset) (e .0)) (N .2 _ witness (omega (arith, ended))) in
             (kept-final (snoc u b ++ r) (length u) f N (λ g G k. omega (arith, first, later g G k)), refl)
 
     -- ---- the byte puts nothing out
 
     -- an occurrence that ended earlier and starts before g
-    pub record Ahead (q : List ℕ) (m : ℕ) (g : Found) : Type 0 where
-      pub ahead : Found
+    pub record Ahead (q : List ℕ) (m : ℕ) (g : Occurrence) : Type 0 where
+      pub ahead : Occurrence
       pub stands : From es q p ahead
       pub ended : ahead .end ≤ p + m
       pub earlier : ahead .start < g .start
 
     -- what ends with the byte and isn't put out has one ahead
-    unsaid : (u : List ℕ) (b : ℕ) (r : List ℕ) (g : Found) → endings M (snoc u b) ≡ [] → From es (snoc u b ++ r) p g
+    unsaid : (u : List ℕ) (b : ℕ) (r : List ℕ) (g : Occurrence) → endings M (snoc u b) ≡ [] → From es (snoc u b ++ r) p g
         → g .end ≡ p + length (snoc u b) → Ahead (snoc u b ++ r) (length u) g
     unfolding occurs
     unsaid u b r g e G k =
         record {
-          ahead = foundAt (p + c .offset) (x .0);
+          ahead = occurrenceAt (p + c .offset) (x .0);
           stands = from-read v r p (x .0) (c .offset) (x .1) (rw (x .2) (w .prefixed));
           ended = omega (arith, shorter, length-snoc u b);
           earlier = omega (arith, c .sooner, from-start (v ++ r) p g G);
@@ -253,7 +253,7 @@ module _ (es : List Entry) (P : Proper es) where
                   clash (subst (λ (l : List ℕ). M .stops l ≡ true) same (entry-stops (x .0) (x .1))) (rw (c .own))
             ]
 
-    passed : (u : List ℕ) (b : ℕ) (r : List ℕ) (kept : Option Found) → endings M (snoc u b) ≡ []
+    passed : (u : List ℕ) (b : ℕ) (r : List ℕ) (kept : Option Occurrence) → endings M (snoc u b) ≡ []
         → Kept es (snoc u b ++ r) p (length u) kept → Kept es (snoc u b ++ r) p (length (snoc u b)) kept
     passed u b r none e N =
         λ g G k. elim (decLt (p + length u) (g .end)) [
@@ -302,7 +302,7 @@ module _ (es : List Entry) (P : Proper es) where
           ]
 
       leading-best : (y : Entry) (o : ℕ) → List·Memᴰ y es → occurs (y .word) u o ≡ true
-          → (foundAt (p + o) y ≡ foundAt (p + d .offset) x) ⊎ ByLength (foundAt (p + d .offset) x) (foundAt (p + o) y)
+          → (occurrenceAt (p + o) y ≡ occurrenceAt (p + d .offset) x) ⊎ ByLength (occurrenceAt (p + d .offset) x) (occurrenceAt (p + o) y)
       leading-best y o m h =
           let first = leading-first y o m h in
           let inside = lies-inside y u o m h in
@@ -312,21 +312,21 @@ module _ (es : List Entry) (P : Proper es) where
                 elim (decLt (o + length (y .word)) (length u)) [
                   | yes k ↦ inr (inr (omega arith, inl (omega (arith, leading-end))))
                   | no k ↦ let whole : y .word ≡ drop o u = suffix-is y u o h (omega arith) in
-                      ⊎-elim (λ q. inl (ap₂ (λ (i : ℕ) (z : Entry). foundAt (p + i) z) same q))
+                      ⊎-elim (λ q. inl (ap₂ (λ (i : ℕ) (z : Entry). occurrenceAt (p + i) z) same q))
                       (λ q. inr (inr (omega arith, inr (omega (arith, inside, leading-end), q))))
                       (leading-row y m (whole ∙ ap (λ (i : ℕ). drop i u) same))
                 ]
           ]
 
-      leading-kept : Kept es (u ++ r) p (length u) (some (foundAt (p + d .offset) x))
+      leading-kept : Kept es (u ++ r) p (length u) (some (occurrenceAt (p + d .offset) x))
       leading-kept = (
         from-read u r p x (d .offset) (leading-entry .0) leading-lies,
         omega (arith, leading-end),
-        λ g G k. subst (λ (f : Found). (f ≡ foundAt (p + d .offset) x) ⊎ ByLength (foundAt (p + d .offset) x) f) (sym (G .is))
+        λ g G k. subst (λ (f : Occurrence). (f ≡ occurrenceAt (p + d .offset) x) ⊎ ByLength (occurrenceAt (p + d .offset) x) f) (sym (G .is))
             (leading-best (G .entry) (G .offset) (G .listed) (read-lies g G k)),
       )
         where
-          read-lies : (g : Found) (G : From es (u ++ r) p g) → g .end ≤ p + length u → occurs (G .entry .word) u (G .offset) ≡ true
+          read-lies : (g : Occurrence) (G : From es (u ++ r) p g) → g .end ≤ p + length u → occurs (G .entry .word) u (G .offset) ≡ true
           read-lies g G k =
               let e = from-end (u ++ r) p g G in
               lies-read u r (G .entry) (G .offset) (omega (arith, e)) (omega (arith, e)) (G .lies)
@@ -338,16 +338,16 @@ module _ (es : List Entry) (P : Proper es) where
         let long = leading-end u r x d in
         let start : p + length u - length (x .word) ≡ p + d .offset = omega (arith, long) in
         let end : p + length u ≡ p + d .offset + length (x .word) = omega (arith, long) in
-        subst (λ (f : Found). Kept es (u ++ r) p (length u) (some f)) (λ i. record { start = sym start i; end = sym end i; row = x .row })
+        subst (λ (f : Occurrence). Kept es (u ++ r) p (length u) (some f)) (λ i. record { start = sym start i; end = sym end i; row = x .row })
         (leading-kept u r x d)
 
     -- ---- the byte ends at root
 
-    at-root : (u r : List ℕ) (f : Found) → longestState S u ≡ [] → Kept es (u ++ r) p (length u) (some f)
+    at-root : (u r : List ℕ) (f : Occurrence) → longestState S u ≡ [] → Kept es (u ++ r) p (length u) (some f)
         → Kept es (u ++ r) p (length (u ++ r)) (some f)
     at-root u r f e K = kept-final (u ++ r) (length u) f K later
       where
-        later : (g : Found) → From es (u ++ r) p g → p + length u < g .end → f .start < g .start
+        later : (g : Occurrence) → From es (u ++ r) p g → p + length u < g .end → f .start < g .start
         later g G k =
             let before-end = (ends-inside (u ++ r) p f (K .0)) .0 in
             let starts-at = from-start (u ++ r) p g G in
@@ -374,7 +374,7 @@ module _ (es : List Entry) (P : Proper es) where
         (ap (λ (l : List ℕ). longestState S (snoc l b)) e ∙ sym (longest-step S (L .states) u b))
 
     -- a call ends here or goes on, and gives the best either way
-    finish : (u r s : List ℕ) (now : Option Found) (moves : ℕ) (on : Given) → s ≡ longestState S u → Kept es (u ++ r) p (length u) now
+    finish : (u r s : List ℕ) (now : Option Occurrence) (moves : ℕ) (on : Given) → s ≡ longestState S u → Kept es (u ++ r) p (length u) now
         → Kept es (u ++ r) p (length (u ++ r)) (on .given) → Kept es (u ++ r) p (length (u ++ r)) ((pick (isNil s && isSome now) (giving now moves) on) .given)
     finish u r [] none moves on e K J = J
     finish u r [] (some f) moves on e K J = at-root u r f (sym e) K
@@ -382,14 +382,14 @@ module _ (es : List Entry) (P : Proper es) where
     finish u r (x ∷ xs) (some f) moves on e K J = J
 
     -- what is kept after a byte that doesn't fall
-    keeps : (u : List ℕ) (b : ℕ) (r : List ℕ) (kept : Option Found) (o : List Entry) → endings M (snoc u b) ≡ o
+    keeps : (u : List ℕ) (b : ℕ) (r : List ℕ) (kept : Option Occurrence) (o : List Entry) → endings M (snoc u b) ≡ o
         → Kept es (snoc u b ++ r) p (length u) kept → Kept es (snoc u b ++ r) p (length (snoc u b)) (keeping (suc (p + length u)) o kept)
     keeps u b r kept [] e K = passed u b r kept e K
     keeps u b r kept (x ∷ xs) e K =
         let n : p + length (snoc u b) ≡ suc (p + length u) = omega (arith, length-snoc u b) in
         subst (λ (k : ℕ). Kept es (snoc u b ++ r) p (length (snoc u b)) (some (endAt k x))) n (taken (snoc u b) r x xs e)
 
-    pub says-next : (w : Walk) (u r : List ℕ) (kept : Option Found) → w .state ≡ longestState S u → before S (M .stops) u ≡ false
+    pub says-next : (w : Walk) (u r : List ℕ) (kept : Option Occurrence) → w .state ≡ longestState S u → before S (M .stops) u ≡ false
         → Kept es (u ++ r) p (length u) kept → Kept es (u ++ r) p (length (u ++ r)) ((saysNext M w (p + length u) kept r) .given)
     unfolding saysNext chain
     says-next w u [] kept e h K = rw (append-nil u) (rw (append-nil u) at K)

@@ -7,7 +7,7 @@ use native.Mathlib.Omega.{arith}
 use lib.ListN.{length, drop}
 use lib.Seq.{drop-drop}
 use Rattle.paper.specs.Patterns.{Entry, Choice, leftmost, longest, first, accepted, Filled, Proper}
-use Rattle.paper.specs.Matches.{occurs, Found, foundAt, Stands, ByLength, Chosen, leftmostBy}
+use Rattle.paper.specs.Matches.{occurs, Occurrence, occurrenceAt, Stands, ByLength, Chosen, leftmostBy}
 use Rattle.paper.specs.Automaton.{Machine, machine, longestState, before, saysNext, onGiven, saysLeftmost}
 use Rattle.paper.proofs.Order.{by-length-asymmetric}
 use Rattle.paper.proofs.Occurrences.{stands-bounds, chosen-unique, leftmost-is}
@@ -16,7 +16,7 @@ use Rattle.paper.proofs.Leftmost.{From, Kept, ends-inside, says-next}
 
 module _ (es : List Entry) (P : Proper es) (t : List ℕ) where
   -- an occurrence that starts at p or later is one in the text from p on
-  stands-from : (p : ℕ) (g : Found) → Stands es t g → p ≤ g .start → From es (drop p t) p g
+  stands-from : (p : ℕ) (g : Occurrence) → Stands es t g → p ≤ g .start → From es (drop p t) p g
   unfolding occurs
   stands-from p g s h =
       let there : p + (g .start - p) ≡ g .start = omega arith in
@@ -28,19 +28,19 @@ module _ (es : List Entry) (P : Proper es) (t : List ℕ) where
         is = rw there (s .is);
       }
 
-  from-stands : (p : ℕ) (g : Found) → From es (drop p t) p g → Stands es t g
+  from-stands : (p : ℕ) (g : Occurrence) → From es (drop p t) p g → Stands es t g
   unfolding occurs
   from-stands p g G =
-      let start : g .start ≡ p + G .offset = ap (λ (f : Found). f .start) (G .is) in
+      let start : g .start ≡ p + G .offset = ap (λ (f : Occurrence). f .start) (G .is) in
       record {
         entry = G .entry;
         listed = G .listed;
         occurring = rw (start, ← drop-drop (G .offset) p t) (G .lies);
-        is = G .is ∙ ap (λ (k : ℕ). foundAt k (G .entry)) (sym start);
+        is = G .is ∙ ap (λ (k : ℕ). occurrenceAt k (G .entry)) (sym start);
       }
 
-  from-start : (p : ℕ) (g : Found) → From es (drop p t) p g → p ≤ g .start
-  from-start p g G = omega (arith, ap (λ (f : Found). f .start) (G .is))
+  from-start : (p : ℕ) (g : Occurrence) → From es (drop p t) p g → p ≤ g .start
+  from-start p g G = omega (arith, ap (λ (f : Occurrence). f .start) (G .is))
 
   module _ (choice : Choice) where
     abbrev M : Machine
@@ -66,8 +66,8 @@ module _ (es : List Entry) (P : Proper es) (t : List ℕ) where
         moved : ℕ
         moved = (saysNext M (record { state = []; moves = moves }) p none (drop p t)) .moves
 
-        go : (o : Option Found) → Kept es (drop p t) p (length (drop p t)) o
-            → ((f : Found) → p < f .end → Chosen ByLength es t (f .end) ((saysLeftmost M n (f .end) moved t) .matches))
+        go : (o : Option Occurrence) → Kept es (drop p t) p (length (drop p t)) o
+            → ((f : Occurrence) → p < f .end → Chosen ByLength es t (f .end) ((saysLeftmost M n (f .end) moved t) .matches))
             → Chosen ByLength es t p ((onGiven o moved (λ f. saysLeftmost M n (f .end) moved t)) .matches)
         go none K more = λ g s k. let G = stands-from p g s k in K g G ((ends-inside es P (drop p t) p g G) .1)
         go (some f) K more = (

@@ -11,7 +11,7 @@ use lib.Dec.{eqb, leb}
 use lib.ListN.{length, drop, length-drop}
 use Rattle.paper.specs.Lists.{prefix, those, each, Sorted}
 use Rattle.paper.specs.Patterns.{Entry, Choice, longest, first, Proper}
-use Rattle.paper.specs.Matches.{occurs, Found, foundAt, startingAt, between, endingAt, byEnd, byLength, byRow, apart}
+use Rattle.paper.specs.Matches.{occurs, Occurrence, occurrenceAt, startingAt, between, endingAt, byEnd, byLength, byRow, apart}
 use Rattle.paper.specs.Matches.{overlapping, plain, leftmostBy, Stands, ByEnd, ByLength, ByRow, Leftmost}
 use Rattle.paper.specs.Matches.{Overlapping, Best, Chosen}
 use Rattle.paper.proofs.Tests.{test, and-left, and-right, and-both, eqb-eq, eq-eqb, leb-le, leb-lt}
@@ -22,19 +22,19 @@ use Rattle.paper.proofs.Order.{sorted-cases, sorted-unique, sorted-weak
 -- ---- what stands
 
 pub found-stands : (es : List Entry) (t : List ℕ) (s : ℕ) (x : Entry) → List·Memᴰ x es → occurs (x .word) t s ≡ true
-    → Stands es t (foundAt s x)
+    → Stands es t (occurrenceAt s x)
 found-stands es t s x m h = record { entry = x; listed = m; occurring = h; is = refl }
 
 -- what stands stands for any list that has its entry
-pub stands-relisted : {es more : List Entry} {t : List ℕ} {f : Found} (st : Stands es t f) → List·Memᴰ (st .entry) more → Stands more t f
+pub stands-relisted : {es more : List Entry} {t : List ℕ} {f : Occurrence} (st : Stands es t f) → List·Memᴰ (st .entry) more → Stands more t f
 stands-relisted st m = record { entry = st .entry; listed = m; occurring = st .occurring; is = st .is }
 
 -- the end and the row of what stands are its entry's
-pub stands-end : {es : List Entry} {t : List ℕ} {f : Found} (st : Stands es t f) → f .end ≡ f .start + length (st .entry .word)
-stands-end st = ap (λ (g : Found). g .end) (st .is)
+pub stands-end : {es : List Entry} {t : List ℕ} {f : Occurrence} (st : Stands es t f) → f .end ≡ f .start + length (st .entry .word)
+stands-end st = ap (λ (g : Occurrence). g .end) (st .is)
 
-pub stands-row : {es : List Entry} {t : List ℕ} {f : Found} (st : Stands es t f) → f .row ≡ st .entry .row
-stands-row st = ap (λ (g : Found). g .row) (st .is)
+pub stands-row : {es : List Entry} {t : List ℕ} {f : Occurrence} (st : Stands es t f) → f .row ≡ st .entry .row
+stands-row st = ap (λ (g : Occurrence). g .row) (st .is)
 
 -- an occurrence lies in the text
 pub occurs-within : (p t : List ℕ) (s : ℕ) → occurs p t s ≡ true → length p ≤ length t - s
@@ -51,7 +51,7 @@ unfolding occurs
 occurs-nested p q t s h k l = prefix-of p q (drop s t) h k l
 
 -- no pattern is empty, so what stands is not empty; and it lies in the text
-pub stands-bounds : {es : List Entry} {t : List ℕ} {f : Found} → Proper es → Stands es t f → (f .start < f .end) × (f .end ≤ length t)
+pub stands-bounds : {es : List Entry} {t : List ℕ} {f : Occurrence} → Proper es → Stands es t f → (f .start < f .end) × (f .end ≤ length t)
 stands-bounds {es} {t} {f} proper st =
     let l : 0 < length (st .entry .word) = proper .filled (st .entry) (st .listed) in
     let w : length (st .entry .word) ≤ length t - f .start = occurs-within (st .entry .word) t (f .start) (st .occurring) in
@@ -61,40 +61,40 @@ stands-bounds {es} {t} {f} proper st =
 
 -- `startingAt` and `between` are both of this form
 module _ (es : List Entry) (t : List ℕ) (s : ℕ) (passes : Entry → Bool) where
-  in-found : ((x : Entry) → passes x ≡ true → occurs (x .word) t s ≡ true) → (f : Found)
-      → List·Memᴰ f (map (foundAt s) (those passes es)) → (st : Stands es t f) × (f .start ≡ s) × (passes (st .entry) ≡ true)
+  in-found : ((x : Entry) → passes x ≡ true → occurs (x .word) t s ≡ true) → (f : Occurrence)
+      → List·Memᴰ f (map (occurrenceAt s) (those passes es)) → (st : Stands es t f) × (f .start ≡ s) × (passes (st .entry) ≡ true)
   in-found occurring f m =
-      let r = Memᴰ·of-map (foundAt s) (those passes es) m in
+      let r = Memᴰ·of-map (occurrenceAt s) (those passes es) m in
       let k = in-those passes es (r .1) in
-      let e : s ≡ f .start = ap (λ (g : Found). g .start) (r .2) in (
+      let e : s ≡ f .start = ap (λ (g : Occurrence). g .start) (r .2) in (
         record {
           entry = r .0;
           listed = k .0;
           occurring = subst (λ n. occurs (r .0 .word) t n ≡ true) e (occurring (r .0) (k .1));
-          is = sym (r .2) ∙ ap (λ (n : ℕ). foundAt n (r .0)) e;
+          is = sym (r .2) ∙ ap (λ (n : ℕ). occurrenceAt n (r .0)) e;
         },
         sym e,
         k .1,
       )
 
-  to-found : (f : Found) (st : Stands es t f) → f .start ≡ s → passes (st .entry) ≡ true → List·Memᴰ f (map (foundAt s) (those passes es))
+  to-found : (f : Occurrence) (st : Stands es t f) → f .start ≡ s → passes (st .entry) ≡ true → List·Memᴰ f (map (occurrenceAt s) (those passes es))
   to-found f st e h =
-      Memᴰ·cast (st .is ∙ ap (λ (n : ℕ). foundAt n (st .entry)) e) (Memᴰ·map (foundAt s) (to-those passes es (st .listed) h))
+      Memᴰ·cast (st .is ∙ ap (λ (n : ℕ). occurrenceAt n (st .entry)) e) (Memᴰ·map (occurrenceAt s) (to-those passes es (st .listed) h))
 
-  found-rising : Proper es → Sorted (λ f g. f .row < g .row) (map (foundAt s) (those passes es))
+  found-rising : Proper es → Sorted (λ f g. f .row < g .row) (map (occurrenceAt s) (those passes es))
   found-rising proper =
-      sorted-map (λ f g. f .row < g .row) (foundAt s) (those passes es) (sorted-those (λ x y. x .row < y .row) passes es (proper .rising))
+      sorted-map (λ f g. f .row < g .row) (occurrenceAt s) (those passes es) (sorted-those (λ x y. x .row < y .row) passes es (proper .rising))
 
 -- ---- the lists are exact
 
-pub starting-exact : (es : List Entry) (t : List ℕ) (s : ℕ) (f : Found) → List·Memᴰ f (startingAt es t s) ↔ (Stands es t f × (f .start ≡ s))
+pub starting-exact : (es : List Entry) (t : List ℕ) (s : ℕ) (f : Occurrence) → List·Memᴰ f (startingAt es t s) ↔ (Stands es t f × (f .start ≡ s))
 unfolding startingAt
 starting-exact es t s f = (
   λ m. let r = in-found es t s (λ x. occurs (x .word) t s) (λ x h. h) f m in (r .0, r .1),
   λ h. to-found es t s (λ x. occurs (x .word) t s) f (h .0) (h .1) (rw (h .1) at (h .0 .occurring)),
 )
 
-pub between-exact : (es : List Entry) (t : List ℕ) (s e : ℕ) (f : Found)
+pub between-exact : (es : List Entry) (t : List ℕ) (s e : ℕ) (f : Occurrence)
     → List·Memᴰ f (between es t s e) ↔ (Stands es t f × (f .start ≡ s) × (f .end ≡ e))
 unfolding between
 between-exact es t s e f = (
@@ -114,7 +114,7 @@ between-exact es t s e f = (
     passes x = occurs (x .word) t s && ends x
 
 -- what stands is not empty, so it starts before its end
-pub ending-exact : (es : List Entry) (t : List ℕ) (e : ℕ) (f : Found) → Proper es
+pub ending-exact : (es : List Entry) (t : List ℕ) (e : ℕ) (f : Occurrence) → Proper es
     → List·Memᴰ f (endingAt es t e) ↔ (Stands es t f × (f .end ≡ e))
 unfolding endingAt
 ending-exact es t e f proper = (
@@ -123,7 +123,7 @@ ending-exact es t e f proper = (
       to-each 0 e (f .start) (λ s. between es t s e) (omega arith) (omega arith) (between-exact es t (f .start) e f .1 (h .0, refl, h .1)),
 )
 
-pub by-end-exact : (es : List Entry) (t : List ℕ) → Proper es → (f : Found) → List·Memᴰ f (byEnd es t) ↔ Stands es t f
+pub by-end-exact : (es : List Entry) (t : List ℕ) → Proper es → (f : Occurrence) → List·Memᴰ f (byEnd es t) ↔ Stands es t f
 unfolding byEnd
 by-end-exact es t proper f = (
   λ m. let r = in-each 1 (length t) (λ e. endingAt es t e) m in ending-exact es t (r .0) f proper .0 (r .3) .0,
@@ -131,7 +131,7 @@ by-end-exact es t proper f = (
       to-each 1 (length t) (f .end) (λ e. endingAt es t e) (omega arith) (omega arith) (ending-exact es t (f .end) f proper .1 (st, refl)),
 )
 
-pub by-row-exact : (es : List Entry) (t : List ℕ) → Proper es → (f : Found) → List·Memᴰ f (byRow es t) ↔ Stands es t f
+pub by-row-exact : (es : List Entry) (t : List ℕ) → Proper es → (f : Occurrence) → List·Memᴰ f (byRow es t) ↔ Stands es t f
 unfolding byRow
 by-row-exact es t proper f = (
   λ m. let r = in-each 0 (length t) (λ s. startingAt es t s) m in starting-exact es t (r .0) f .0 (r .3) .0,
@@ -140,10 +140,10 @@ by-row-exact es t proper f = (
 )
 
 -- what byLength has at one start
-atStart : List Entry → List ℕ → ℕ → List Found
+atStart : List Entry → List ℕ → ℕ → List Occurrence
 atStart es t s = each 0 (length t - s) (λ k. between es t s (length t - k))
 
-at-start-exact : (es : List Entry) (t : List ℕ) (s : ℕ) (f : Found) → Proper es
+at-start-exact : (es : List Entry) (t : List ℕ) (s : ℕ) (f : Occurrence) → Proper es
     → List·Memᴰ f (atStart es t s) ↔ (Stands es t f × (f .start ≡ s))
 unfolding atStart
 at-start-exact es t s f proper = (
@@ -155,7 +155,7 @@ at-start-exact es t s f proper = (
       (between-exact es t s (length t - (length t - f .end)) f .1 (h .0, h .1, omega arith)),
 )
 
-pub by-length-exact : (es : List Entry) (t : List ℕ) → Proper es → (f : Found) → List·Memᴰ f (byLength es t) ↔ Stands es t f
+pub by-length-exact : (es : List Entry) (t : List ℕ) → Proper es → (f : Occurrence) → List·Memᴰ f (byLength es t) ↔ Stands es t f
 unfolding byLength atStart
 by-length-exact es t proper f = (
   λ m. let r = in-each 0 (length t) (λ s. atStart es t s) m in at-start-exact es t (r .0) f proper .0 (r .3) .0,
@@ -167,7 +167,7 @@ by-length-exact es t proper f = (
 -- ---- the lists are sorted
 
 -- within one start and end the rows rise, which every order R here asks last
-pub between-sorted : (R : Found → Found → Type 0) → ((f g : Found) → f .start ≡ g .start → f .end ≡ g .end → f .row < g .row → R f g)
+pub between-sorted : (R : Occurrence → Occurrence → Type 0) → ((f g : Occurrence) → f .start ≡ g .start → f .end ≡ g .end → f .row < g .row → R f g)
     → (es : List Entry) (t : List ℕ) (s e : ℕ) → Proper es → Sorted R (between es t s e)
 unfolding between
 between-sorted R by-row es t s e proper =
@@ -219,10 +219,10 @@ by-row-sorted es t proper =
 -- ---- overlapping
 
 -- of what stands, one start and one row are one match: rows rise, so the row has one entry
-pub stands-once : {es : List Entry} {t : List ℕ} {f g : Found} → Proper es → Stands es t f → Stands es t g
+pub stands-once : {es : List Entry} {t : List ℕ} {f g : Occurrence} → Proper es → Stands es t f → Stands es t g
     → f .start ≡ g .start → f .row ≡ g .row → f ≡ g
 stands-once {es} {t} {f} {g} proper a b s r =
-    ⊎-elim (λ e. a .is ∙ ap₂ foundAt s e ∙ sym (b .is))
+    ⊎-elim (λ e. a .is ∙ ap₂ occurrenceAt s e ∙ sym (b .is))
     (⊎-elim (λ (l : a .entry .row < b .entry .row). absurd (omega (arith, stands-row a, stands-row b)))
     (λ (l : b .entry .row < a .entry .row). absurd (omega (arith, stands-row a, stands-row b))))
     (sorted-cases (λ x y. x .row < y .row) es (proper .rising) (a .entry) (b .entry) (a .listed) (b .listed))
@@ -240,17 +240,17 @@ overlapping-is es t proper = record {
   sorted = by-end-sorted es t proper;
 }
 
-pub overlapping-only : (es : List Entry) (t : List ℕ) (l m : List Found) → Overlapping es t l → Overlapping es t m → l ≡ m
+pub overlapping-only : (es : List Entry) (t : List ℕ) (l m : List Occurrence) → Overlapping es t l → Overlapping es t m → l ≡ m
 overlapping-only es t l m a b =
     sorted-unique ByEnd by-end-asymmetric l m (a .sorted) (b .sorted)
     (λ f. (λ h. b .exact f .1 (a .exact f .0 h), λ h. a .exact f .1 (b .exact f .0 h)))
 
 -- ---- plain and leftmost: the best of what is left, again and again
 
-module _ (Better : Found → Found → Type 0) (t : List ℕ) where
+module _ (Better : Occurrence → Occurrence → Type 0) (t : List ℕ) where
   -- apart takes the best, if all that stands from p on is in the sorted list
-  pub apart-chosen : (es : List Entry) (p : ℕ) (l : List Found) → Proper es → ((f : Found) → List·Memᴰ f l → Stands es t f)
-      → ((f : Found) → Stands es t f → p ≤ f .start → List·Memᴰ f l) → Sorted Better l → Chosen Better es t p (apart p l)
+  pub apart-chosen : (es : List Entry) (p : ℕ) (l : List Occurrence) → Proper es → ((f : Occurrence) → List·Memᴰ f l → Stands es t f)
+      → ((f : Occurrence) → Stands es t f → p ≤ f .start → List·Memᴰ f l) → Sorted Better l → Chosen Better es t p (apart p l)
   unfolding apart
   apart-chosen es p [] proper stands all sorted = λ g st le. List·Memᴰ·not-nil (all g st le)
   apart-chosen es p (f ∷ l) proper stands all sorted =
@@ -264,26 +264,26 @@ module _ (Better : Found → Found → Type 0) (t : List ℕ) where
         apart-chosen es (f .end) l proper (λ g k. stands g (List·Memᴰ·tail k))
             (λ g st le.
             let filled : f .start < f .end = stands-bounds proper (stands f (List·Memᴰ·head refl)) .0 in
-            not-head (λ e. omega (arith, ap (λ (x : Found). x .start) e)) (all g st (omega (arith, leb-le p (f .start) h))))
+            not-head (λ e. omega (arith, ap (λ (x : Occurrence). x .start) e)) (all g st (omega (arith, leb-le p (f .start) h))))
             (sorted .1),
       ))
       (λ h. rw h
       (apart-chosen es p l proper (λ g k. stands g (List·Memᴰ·tail k))
-      (λ g st le. not-head (λ e. omega (arith, leb-lt p (f .start) h, ap (λ (x : Found). x .start) e)) (all g st le))
+      (λ g st le. not-head (λ e. omega (arith, leb-lt p (f .start) h, ap (λ (x : Occurrence). x .start) e)) (all g st le))
       (sorted .1)))
 
   -- the same from 0, where the list has exactly what stands
-  exact-chosen : (es : List Entry) (l : List Found) → Proper es → ((f : Found) → List·Memᴰ f l ↔ Stands es t f) → Sorted Better l
+  exact-chosen : (es : List Entry) (l : List Occurrence) → Proper es → ((f : Occurrence) → List·Memᴰ f l ↔ Stands es t f) → Sorted Better l
       → Chosen Better es t 0 (apart 0 l)
   exact-chosen es l proper exact sorted = apart-chosen es 0 l proper (λ f. exact f .0) (λ f st le. exact f .1 st) sorted
 
-  best-unique : Asymmetric Better → (es : List Entry) (p : ℕ) (f g : Found) → Best Better es t p f → Best Better es t p g → f ≡ g
+  best-unique : Asymmetric Better → (es : List Entry) (p : ℕ) (f g : Occurrence) → Best Better es t p f → Best Better es t p g → f ≡ g
   best-unique asymmetric es p f g a b =
       ⊎-elim (λ e. e) (λ h. ⊎-elim sym (λ k. absurd (asymmetric f g k h)) (a .best g (b .stands) (b .from)))
       (b .best f (a .stands) (a .from))
 
   -- the best is one, so one list is chosen
-  pub chosen-unique : Asymmetric Better → (es : List Entry) (p : ℕ) (l m : List Found)
+  pub chosen-unique : Asymmetric Better → (es : List Entry) (p : ℕ) (l m : List Occurrence)
       → Chosen Better es t p l → Chosen Better es t p m → l ≡ m
   chosen-unique asymmetric es p [] [] a b = refl
   chosen-unique asymmetric es p [] (g ∷ m) a b = absurd (a g (b .0 .stands) (b .0 .from))
@@ -293,9 +293,9 @@ module _ (Better : Found → Found → Type 0) (t : List ℕ) where
       ap₂ _∷_ e (chosen-unique asymmetric es (f .end) l m (a .1) (rw e (b .1)))
 
   -- what is chosen of some entries is chosen of more, if whatever stands for these starts with something as good of the first
-  pub chosen-wider : Transitive Better → (es more : List Entry) → ((f : Found) → Stands es t f → Stands more t f)
-      → ((g : Found) → Stands more t g → (h : Found) × Stands es t h × (h .start ≡ g .start) × ((g ≡ h) ⊎ Better h g))
-      → (p : ℕ) (l : List Found) → Chosen Better es t p l → Chosen Better more t p l
+  pub chosen-wider : Transitive Better → (es more : List Entry) → ((f : Occurrence) → Stands es t f → Stands more t f)
+      → ((g : Occurrence) → Stands more t g → (h : Occurrence) × Stands es t h × (h .start ≡ g .start) × ((g ≡ h) ⊎ Better h g))
+      → (p : ℕ) (l : List Occurrence) → Chosen Better es t p l → Chosen Better more t p l
   chosen-wider transitive es more into cover p [] c =
       λ g st le. let r = cover g st in c (r .0) (r .1) (omega (arith, r .2))
   chosen-wider transitive es more into cover p (f ∷ l) c = (
@@ -303,12 +303,12 @@ module _ (Better : Found → Found → Type 0) (t : List ℕ) where
     chosen-wider transitive es more into cover (f .end) l (c .1),
   )
     where
-      best : (g : Found) → Stands more t g → p ≤ g .start → (g ≡ f) ⊎ Better f g
+      best : (g : Occurrence) → Stands more t g → p ≤ g .start → (g ≡ f) ⊎ Better f g
       best g st le =
           let r = cover g st in
           join (r .3) (c .0 .best (r .0) (r .1) (omega (arith, r .2)))
         where
-          join : {h : Found} → (g ≡ h) ⊎ Better h g → (h ≡ f) ⊎ Better f h → (g ≡ f) ⊎ Better f g
+          join : {h : Occurrence} → (g ≡ h) ⊎ Better h g → (h ≡ f) ⊎ Better f h → (g ≡ f) ⊎ Better f g
           join (inl a) (inl b) = inl (a ∙ b)
           join (inl a) (inr b) = inr (rw a b)
           join (inr a) (inl b) = inr (rw b at a)

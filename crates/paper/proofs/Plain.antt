@@ -10,7 +10,7 @@ use lib.ListN.{length, drop, length-append}
 use lib.Seq.{take-append-seam, drop-append-seam}
 use Rattle.paper.specs.Lists.{snoc, those, each}
 use Rattle.paper.specs.Patterns.{Entry, standard}
-use Rattle.paper.specs.Matches.{occurs, Found, foundAt, between, endingAt, byEnd, apart, plain}
+use Rattle.paper.specs.Matches.{occurs, Occurrence, occurrenceAt, between, endingAt, byEnd, apart, plain}
 use Rattle.paper.specs.Automaton.{machine, isState, longestState, output, endAt, Walk, fresh, step, onFirst, saysPlain}
 use Rattle.paper.proofs.Tests.{le-leb, lt-leb}
 use Rattle.paper.proofs.Strings.{snoc-append, length-snoc}
@@ -19,19 +19,19 @@ use Rattle.paper.proofs.Ends.{each-split, endings-each}
 use Rattle.paper.proofs.Standard.{step-longest, output-longest}
 
 -- what starts before p is passed
-pub apart-skip : (p : ℕ) (l r : List Found) → ((f : Found) → List·Memᴰ f l → f .start < p) → apart p (l ++ r) ≡ apart p r
+pub apart-skip : (p : ℕ) (l r : List Occurrence) → ((f : Occurrence) → List·Memᴰ f l → f .start < p) → apart p (l ++ r) ≡ apart p r
 unfolding apart
 apart-skip p [] r h = refl
 apart-skip p (f ∷ l) r h =
     rw (lt-leb p (f .start) (h f (List·Memᴰ·head refl))) (apart-skip p l r (λ g m. h g (List·Memᴰ·tail m)))
 
-between-start : (es : List Entry) (t : List ℕ) (s e : ℕ) (f : Found) → List·Memᴰ f (between es t s e) → f .start ≡ s
+between-start : (es : List Entry) (t : List ℕ) (s e : ℕ) (f : Occurrence) → List·Memᴰ f (between es t s e) → f .start ≡ s
 unfolding between
 between-start es t s e f m =
-    let r = Memᴰ·of-map (foundAt s) (those (λ x. occurs (x .word) t s && eqb (s + length (x .word)) e) es) m in
-    ap (λ (g : Found). g .start) (sym (r .2))
+    let r = Memᴰ·of-map (occurrenceAt s) (those (λ x. occurs (x .word) t s && eqb (s + length (x .word)) e) es) m in
+    ap (λ (g : Occurrence). g .start) (sym (r .2))
 
-each-starts : (es : List Entry) (t : List ℕ) (e i k : ℕ) (f : Found) → List·Memᴰ f (each i k (λ s. between es t s e))
+each-starts : (es : List Entry) (t : List ℕ) (e i k : ℕ) (f : Occurrence) → List·Memᴰ f (each i k (λ s. between es t s e))
     → (i ≤ f .start) × (f .start < i + k)
 unfolding each
 each-starts es t e i zero f m = absurd (List·Memᴰ·not-nil m)
@@ -63,7 +63,7 @@ module _ (es : List Entry) where
         endings-each es t n p (snoc v c) (omega (arith, length-append (a ++ snoc v c) r)) (sym (length-append a (snoc v c)))
         (sym (ap (drop p) (take-append-seam (a ++ snoc v c) r) ∙ drop-append-seam a (snoc v c)))
 
-    abbrev early : List Found
+    abbrev early : List Occurrence
     early = each 0 p (λ s. between es t s n)
 
     ending-split : endingAt es t n ≡ early ++ map (endAt n) (endings (machine standard es) (snoc v c))
@@ -72,39 +72,39 @@ module _ (es : List Entry) where
         let from : 0 + p ≡ p = omega arith in
         ap (λ (k : ℕ). each 0 k (λ s. between es t s n)) (length-append a (snoc v c))
         ∙ each-split 0 p (length (snoc v c)) (λ s. between es t s n)
-        ∙ ap (λ (l : List Found). early ++ l) (ap (λ (i : ℕ). each i (length (snoc v c)) (λ s. between es t s n)) from ∙ sym late)
+        ∙ ap (λ (l : List Occurrence). early ++ l) (ap (λ (i : ℕ). each i (length (snoc v c)) (λ s. between es t s n)) from ∙ sym late)
 
     -- so the plain list looks only at those
-    late-only : (rest : List Found) → apart p (endingAt es t n ++ rest) ≡ apart p (map (endAt n) (endings (machine standard es) (snoc v c)) ++ rest)
+    late-only : (rest : List Occurrence) → apart p (endingAt es t n ++ rest) ≡ apart p (map (endAt n) (endings (machine standard es) (snoc v c)) ++ rest)
     late-only rest =
-        ap (λ (l : List Found). apart p (l ++ rest)) ending-split
+        ap (λ (l : List Occurrence). apart p (l ++ rest)) ending-split
         ∙ ap (apart p) (append-assoc early (map (endAt n) (endings (machine standard es) (snoc v c))) rest)
         ∙ apart-skip p early (map (endAt n) (endings (machine standard es) (snoc v c)) ++ rest) (λ f m. let h = each-starts es t n 0 p f m in omega (arith, h))
 
-    late-starts : (f : Found) → List·Memᴰ f (map (endAt n) (endings (machine standard es) (snoc v c))) → (p ≤ f .start) × (f .start < n)
+    late-starts : (f : Occurrence) → List·Memᴰ f (map (endAt n) (endings (machine standard es) (snoc v c))) → (p ≤ f .start) × (f .start < n)
     late-starts f m =
-        let h = each-starts es t n p (length (snoc v c)) f (subst (λ (l : List Found). List·Memᴰ f l) late m) in
+        let h = each-starts es t n p (length (snoc v c)) f (subst (λ (l : List Occurrence). List·Memᴰ f l) late m) in
         (h .0, omega (arith, h .1, length-append a (snoc v c)))
 
     -- the first of them is taken, and the others start before its end
-    first-taken : (x : Entry) (xs : List Entry) (rest : List Found) → endings (machine standard es) (snoc v c) ≡ x ∷ xs
+    first-taken : (x : Entry) (xs : List Entry) (rest : List Occurrence) → endings (machine standard es) (snoc v c) ≡ x ∷ xs
         → apart p (endAt n x ∷ map (endAt n) xs ++ rest) ≡ endAt n x ∷ apart n rest
     unfolding apart
     first-taken x xs rest e =
-        let all : (f : Found) → List·Memᴰ f (endAt n x ∷ map (endAt n) xs) → (p ≤ f .start) × (f .start < n)
+        let all : (f : Occurrence) → List·Memᴰ f (endAt n x ∷ map (endAt n) xs) → (p ≤ f .start) × (f .start < n)
         = λ f m. late-starts f (rw e m) in
         rw (le-leb p ((endAt n x) .start) ((all (endAt n x) (List·Memᴰ·head refl)) .0))
-        (ap (λ (l : List Found). endAt n x ∷ l) (apart-skip n (map (endAt n) xs) rest (λ f m. (all f (List·Memᴰ·tail m)) .1)))
+        (ap (λ (l : List Occurrence). endAt n x ∷ l) (apart-skip n (map (endAt n) xs) rest (λ f m. (all f (List·Memᴰ·tail m)) .1)))
 
-    abbrev rest : List Found
+    abbrev rest : List Occurrence
     rest = each (suc n) (length r) (λ e. endingAt es t e)
 
     -- one byte, by what is put out there; `on` goes on from the state, `again` from root
-    turn : (on again : List Found) (o : List Entry) → endings (machine standard es) (snoc v c) ≡ o
+    turn : (on again : List Occurrence) (o : List Entry) → endings (machine standard es) (snoc v c) ≡ o
         → on ≡ apart p rest → again ≡ apart n rest → onFirst o on (λ x. endAt n x ∷ again) ≡ apart p (endingAt es t n ++ rest)
     turn on again [] e h k = h ∙ ap (λ (l : List Entry). apart p (map (endAt n) l ++ rest)) (sym e) ∙ sym (late-only rest)
     turn on again (x ∷ xs) e h k =
-        ap (λ (l : List Found). endAt n x ∷ l) k ∙ sym (first-taken x xs rest e)
+        ap (λ (l : List Occurrence). endAt n x ∷ l) k ∙ sym (first-taken x xs rest e)
         ∙ ap (λ (l : List Entry). apart p (map (endAt n) l ++ rest)) (sym e) ∙ sym (late-only rest)
 
   root-longest : [] ≡ longestState (isState es) []

@@ -8,7 +8,7 @@ use lib.ListN.{length, take, length-append}
 use lib.Seq.{take-append-seam}
 use Rattle.paper.specs.Lists.{snoc, each}
 use Rattle.paper.specs.Patterns.{Entry, standard}
-use Rattle.paper.specs.Matches.{Found, endingAt, byEnd, overlapping}
+use Rattle.paper.specs.Matches.{Occurrence, endingAt, byEnd, overlapping}
 use Rattle.paper.specs.Automaton.{Machine, machine, isState, longestState, output, endAt, Walk, fresh, step, walk, never, saysAll}
 use Rattle.paper.proofs.Strings.{snoc-append, length-snoc}
 use Rattle.paper.proofs.Longest.{longest-step}
@@ -61,7 +61,7 @@ module _ (es : List Entry) where
   says-all w u [] h = refl
   says-all w u (c ∷ t) h =
       let on = says-all (step M w c) (snoc u c) t (step-longest w u c h) in
-      ap₂ (λ (a b : List Found). a ++ b) (output-ends w u c t h) (rw (length-snoc u c, snoc-append u c t) at on)
+      ap₂ (λ (a b : List Occurrence). a ++ b) (output-ends w u c t h) (rw (length-snoc u c, snoc-append u c t) at on)
 
   pub says-overlapping : (t : List ℕ) → saysAll M fresh 0 t ≡ overlapping es t
   unfolding overlapping byEnd longestState

@@ -8,7 +8,7 @@ use Prim.Native.Nat.{ℕ, zero, suc, _+_, _-_}
 use lib.ListN.{length, drop}
 use Rattle.paper.specs.Lists.{pick, same, prefix, snoc, isNil, those}
 use Rattle.paper.specs.Patterns.{Entry, Kind, standard, leftmost}
-use Rattle.paper.specs.Matches.{Found}
+use Rattle.paper.specs.Matches.{Occurrence}
 
 -- ---- states, failure, output
 
@@ -138,7 +138,7 @@ abbrev pub output : Machine → List ℕ → List Entry
 output M s = chain M (length s) s
 
 -- the match of an entry that ends at e
-abbrev pub endAt : ℕ → Entry → Found
+abbrev pub endAt : ℕ → Entry → Occurrence
 endAt e x = record { start = e - length (x .word); end = e; row = x .row }
 
 -- ---- the walk, with its moves: each link and each byte is one
@@ -181,19 +181,19 @@ puttingOut M s = not (isNil (output M s))
 -- ---- what the walks say: n bytes were taken, and the walk is at s
 
 -- overlapping: after each byte the whole chain
-unfoldable pub saysAll : Machine → Walk → ℕ → List ℕ → List Found
+unfoldable pub saysAll : Machine → Walk → ℕ → List ℕ → List Occurrence
 saysAll M w n [] = []
 saysAll M w n (c ∷ t) =
     let v = step M w c in
     map (endAt (suc n)) (output M (v .state)) ++ saysAll M v (suc n) t
 
 -- by the first of an output, if there is one
-abbrev pub onFirst : List Entry → List Found → (Entry → List Found) → List Found
+abbrev pub onFirst : List Entry → List Occurrence → (Entry → List Occurrence) → List Occurrence
 onFirst [] on found = on
 onFirst (x ∷ xs) on found = found x
 
 -- plain: the first of the chain, and the walk begins again at root
-unfoldable pub saysPlain : Machine → Walk → ℕ → List ℕ → List Found
+unfoldable pub saysPlain : Machine → Walk → ℕ → List ℕ → List Occurrence
 saysPlain M w n [] = []
 saysPlain M w n (c ∷ t) =
     let v = step M w c in
@@ -201,26 +201,26 @@ saysPlain M w n (c ∷ t) =
     onFirst (output M (v .state)) on (λ x. endAt (suc n) x ∷ saysPlain M (record { state = []; moves = v .moves }) (suc n) t)
 
 -- the first of a state's output, if it has one, else what was kept
-abbrev pub keeping : ℕ → List Entry → Option Found → Option Found
+abbrev pub keeping : ℕ → List Entry → Option Occurrence → Option Occurrence
 keeping n [] kept = kept
 keeping n (x ∷ xs) kept = some (endAt n x)
 
 -- something is kept
-abbrev pub isSome : Option Found → Bool
+abbrev pub isSome : Option Occurrence → Bool
 isSome none = false
 isSome (some f) = true
 
 -- how a leftmost call ends: what it gives, and the moves so far
 pub record Given : Type 0 where
-  pub given : Option Found
+  pub given : Option Occurrence
   pub moves : ℕ
 
 -- a call that ends with what was kept
-abbrev pub giving : Option Found → ℕ → Given
+abbrev pub giving : Option Occurrence → ℕ → Given
 giving kept moves = record { given = kept; moves = moves }
 
 -- leftmost, one call: keep the first output of each state that has one, and give the one kept last when a byte ends at root or the text ends
-unfoldable pub saysNext : Machine → Walk → ℕ → Option Found → List ℕ → Given
+unfoldable pub saysNext : Machine → Walk → ℕ → Option Occurrence → List ℕ → Given
 saysNext M w n kept [] = giving kept (w .moves)
 saysNext M w n kept (c ∷ t) =
     let v = step M w c in
@@ -230,11 +230,11 @@ saysNext M w n kept (c ∷ t) =
 
 -- the matches of a leftmost search and its moves
 pub record Leftmosts : Type 0 where
-  pub matches : List Found
+  pub matches : List Occurrence
   pub moves : ℕ
 
 -- by what a call gave, if it gave a match
-abbrev pub onGiven : Option Found → ℕ → (Found → Leftmosts) → Leftmosts
+abbrev pub onGiven : Option Occurrence → ℕ → (Occurrence → Leftmosts) → Leftmosts
 onGiven none moves more = record { matches = []; moves = moves }
 onGiven (some f) moves more = record { matches = f ∷ (more f) .matches; moves = (more f) .moves }
 

@@ -7,7 +7,7 @@ use Prim.Native.Char.{code}
 use Prim.Native.String.{String, [] as end, _∷_ as _then_}
 use lib.ListN.{length, getD}
 use Rattle.paper.specs.Patterns.{Entry, Kind, standard, leftmost, longest, first, rows, accepted}
-use Rattle.paper.specs.Matches.{Match, told, overlapping, plain, leftmostBy}
+use Rattle.paper.specs.Matches.{Match, withPayloads, overlapping, plain, leftmostBy}
 use Rattle.paper.specs.Automaton.{Machine, machine, isState, failure, output, Walk, fresh, walk, never, puttingOut}
 
 -- the bytes of a text
@@ -91,18 +91,18 @@ movesOver ps t = (walk (machine standard (rows ps)) never fresh t) .moves
 
 -- P2 to P9: the matches as (start, end, value), and the moves of the standard searches
 pub record CaseLists : Type 0 where
-  pub p2 : told (valueOf values3) (plain (rows list1) (bytes "abcd")) ≡ at 0 1 2 ∷ at 1 4 0 ∷ []
-  pub p3 : told (valueOf values3) (overlapping (rows list1) (bytes "abcd")) ≡ at 0 1 2 ∷ at 0 2 1 ∷ at 1 4 0 ∷ []
+  pub p2 : withPayloads (valueOf values3) (plain (rows list1) (bytes "abcd")) ≡ at 0 1 2 ∷ at 1 4 0 ∷ []
+  pub p3 : withPayloads (valueOf values3) (overlapping (rows list1) (bytes "abcd")) ≡ at 0 1 2 ∷ at 0 2 1 ∷ at 1 4 0 ∷ []
   pub p3-moves : movesOver list1 (bytes "abcd") ≡ 5
-  pub p4 : told (valueOf (0 ∷ 1 ∷ 2 ∷ 3 ∷ [])) (overlapping (rows paperList) (bytes "ushers")) ≡ at 1 4 1 ∷ at 2 4 0 ∷ at 2 6 3 ∷ []
+  pub p4 : withPayloads (valueOf (0 ∷ 1 ∷ 2 ∷ 3 ∷ [])) (overlapping (rows paperList) (bytes "ushers")) ≡ at 1 4 1 ∷ at 2 4 0 ∷ at 2 6 3 ∷ []
   pub p4-moves : movesOver paperList (bytes "ushers") ≡ 7
   pub p5-moves : movesOver (bytes "aa" ∷ []) (bytes "aax") ≡ 5
-  pub p6-longest : told (valueOf values3) (leftmostBy longest (accepted (leftmost longest) short-first) (bytes "T100")) ≡ at 0 4 1 ∷ []
+  pub p6-longest : withPayloads (valueOf values3) (leftmostBy longest (accepted (leftmost longest) short-first) (bytes "T100")) ≡ at 0 4 1 ∷ []
   pub p6-accepted : length (accepted (leftmost first) short-first) ≡ 1
-  pub p6-first : told (valueOf values3) (leftmostBy first (accepted (leftmost first) short-first) (bytes "T100")) ≡ at 0 3 0 ∷ []
+  pub p6-first : withPayloads (valueOf values3) (leftmostBy first (accepted (leftmost first) short-first) (bytes "T100")) ≡ at 0 3 0 ∷ []
   pub p7-accepted : length (accepted (leftmost first) long-first) ≡ 2
-  pub p7-first : told (valueOf values3) (leftmostBy first (accepted (leftmost first) long-first) (bytes "T100")) ≡ at 0 4 0 ∷ []
-  pub p8 : told (valueOf (5 ∷ 7 ∷ [])) (overlapping (rows twins) (bytes "ab")) ≡ at 0 2 5 ∷ at 0 2 7 ∷ []
-  pub p8-longest : told (valueOf (5 ∷ 7 ∷ [])) (leftmostBy longest (accepted (leftmost longest) twins) (bytes "ab")) ≡ at 0 2 5 ∷ []
+  pub p7-first : withPayloads (valueOf values3) (leftmostBy first (accepted (leftmost first) long-first) (bytes "T100")) ≡ at 0 4 0 ∷ []
+  pub p8 : withPayloads (valueOf (5 ∷ 7 ∷ [])) (overlapping (rows twins) (bytes "ab")) ≡ at 0 2 5 ∷ at 0 2 7 ∷ []
+  pub p8-longest : withPayloads (valueOf (5 ∷ 7 ∷ [])) (leftmostBy longest (accepted (leftmost longest) twins) (bytes "ab")) ≡ at 0 2 5 ∷ []
   pub p9 : overlapping (rows []) (bytes "") ≡ []
   pub p9-moves : movesOver [] (bytes "") ≡ 0

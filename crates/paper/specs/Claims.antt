@@ -6,7 +6,7 @@ use mathlib.Core.Logic.{_↔_}
 use Prim.Native.Nat.{ℕ, suc, _*_, _-_, _≤_, _<_}
 use lib.ListN.{length, take, drop}
 use Rattle.paper.specs.Patterns.{Entry, Choice, Kind, standard, leftmost, longest, first, rows, accepted, properPrefix, Filled, Proper}
-use Rattle.paper.specs.Matches.{Found, Overlapping, Chosen, ByEnd, Leftmost, endingAt, overlapping, plain, leftmostBy}
+use Rattle.paper.specs.Matches.{Occurrence, Overlapping, Chosen, ByEnd, Leftmost, endingAt, overlapping, plain, leftmostBy}
 use Rattle.paper.specs.Automaton.{machine, isState, longestState, Link, link, Rules, output, endAt, fresh, walk, never, saysAll, saysPlain, saysLeftmost}
 
 -- ---- the lists of matches meet their sentences, and no other list does
@@ -17,13 +17,13 @@ pub record ListClaims : Type 1 where
   pub proper : (kind : Kind) (ps : List (List ℕ)) → Filled ps → Proper (accepted kind ps)
   -- overlapping: exactly the occurrences, each once, by end, then longer first, then row
   pub overlapping-is : (es : List Entry) (t : List ℕ) → Proper es → Overlapping es t (overlapping es t)
-  pub overlapping-only : (es : List Entry) (t : List ℕ) (l m : List Found) → Overlapping es t l → Overlapping es t m → l ≡ m
+  pub overlapping-only : (es : List Entry) (t : List ℕ) (l m : List Occurrence) → Overlapping es t l → Overlapping es t m → l ≡ m
   -- plain: of the occurrences that start at p or later the smallest end, then the longest, then the earliest listed
   pub plain-is : (es : List Entry) (t : List ℕ) → Proper es → Chosen ByEnd es t 0 (plain es t)
-  pub plain-only : (es : List Entry) (t : List ℕ) (p : ℕ) (l m : List Found) → Chosen ByEnd es t p l → Chosen ByEnd es t p m → l ≡ m
+  pub plain-only : (es : List Entry) (t : List ℕ) (p : ℕ) (l m : List Occurrence) → Chosen ByEnd es t p l → Chosen ByEnd es t p m → l ≡ m
   -- leftmost: of the occurrences that start at p or later the smallest start, then the longest or the earliest listed
   pub leftmost-is : (c : Choice) (es : List Entry) (t : List ℕ) → Proper es → Chosen (Leftmost c) es t 0 (leftmostBy c es t)
-  pub leftmost-only : (c : Choice) (es : List Entry) (t : List ℕ) (p : ℕ) (l m : List Found)
+  pub leftmost-only : (c : Choice) (es : List Entry) (t : List ℕ) (p : ℕ) (l m : List Occurrence)
       → Chosen (Leftmost c) es t p l → Chosen (Leftmost c) es t p m → l ≡ m
   -- (F) LeftmostFirst drops a pattern exactly when an earlier listed pattern is a proper prefix of it
   pub acceptance : (ps : List (List ℕ)) (x : Entry)

@@ -17,7 +17,7 @@ use Rattle.list.specs.Limits.{alphabet, block}
 use Rattle.plan.specs.Names.{names}
 use Rattle.plan.specs.Breadth.{kidBytes}
 use Rattle.plan.specs.Groups.{Group, bytesOf, OtherParent}
-use Rattle.plan.specs.Placement.{Placed, Layout, begun, placedBy, put, place, placeTasks, placeAll, Good, Lettered}
+use Rattle.plan.specs.Placement.{Placed, Layout, oneBlock, placedBy, put, place, placeTasks, placeAll, Good, Lettered}
 use Rattle.plan.proofs.Lists.{get-member, sorted-take}
 use Rattle.plan.proofs.Breadth.{in-kid-bytes}
 use Rattle.plan.proofs.Layouts.{begun-good}
@@ -82,7 +82,7 @@ module _ {es : List Entry} {gs : List Group} {trie notes₀ spots₀ : List (Lis
 
   good-to : (i : ℕ) → Good alphabet (laidOut (take i gs))
   good-to i =
-      all-good alphabet bytes firstBlock (window-reaches 16 (omega arith)) begun (take i gs) (begun-good alphabet) (λ g m. letters g (in-take i gs m))
+      all-good alphabet bytes firstBlock (window-reaches 16 (omega arith)) oneBlock (take i gs) (begun-good alphabet) (λ g m. letters g (in-take i gs m))
 
   module _ {i : ℕ} (here : i < length gs) {notes spots : List (List ℕ)} {blocks : ℕ} (R : Round es gs notes₀ notes spots i most blocks) {s : ℕ}
       (e : s ≡ field notes i 3) where
@@ -126,14 +126,14 @@ module _ {es : List Entry} {gs : List Group} {trie notes₀ spots₀ : List (Lis
     -- the layout with it
     with-it : laidOut (take (suc i) gs) ≡ place block firstBlock (laidOut (take i gs)) g
     unfolding placeTasks
-    with-it = ap laidOut (take-suc gs i noGroup here) ∙ all-append block firstBlock begun (take i gs) (g ∷ [])
+    with-it = ap laidOut (take-suc gs i noGroup here) ∙ all-append block firstBlock oneBlock (take i gs) (g ∷ [])
 
     -- a group that was placed before is another state's
     other : (p : Placed) → List·Memᴰ p ((laidOut (take i gs)) .placed) → p .group .parent ≡ g .parent → ⊥
     other p m =
         sorted-take OtherParent gs (P .grouping .once) i noGroup (p .group) here
         (subst (λ (l : List Group). List·Memᴰ (p .group) l)
-        (all-groups alphabet bytes firstBlock (window-reaches 16 (omega arith)) begun (take i gs) (begun-good alphabet) (λ h k. letters h (in-take i gs k)))
+        (all-groups alphabet bytes firstBlock (window-reaches 16 (omega arith)) oneBlock (take i gs) (begun-good alphabet) (λ h k. letters h (in-take i gs k)))
         (Memᴰ·map (λ (q : Placed). q .group) m))
 
     module _ {after chart : List (List ℕ)} {more : ℕ} (T : Turned es (laidOut (take i gs)) g s notes after chart most more) where
@@ -179,7 +179,7 @@ module _ {es : List Entry} {gs : List Group} {trie notes₀ spots₀ : List (Lis
 
     -- one that takes too many blocks makes the whole too large
     pub round-full : most < (place block firstBlock (laidOut (take i gs)) g) .blocks → most < (laidOut gs) .blocks
-    round-full h = let x = all-prefix block firstBlock begun (suc i) gs in omega (arith, ap (λ (l : Layout). l .blocks) with-it)
+    round-full h = let x = all-prefix block firstBlock oneBlock (suc i) gs in omega (arith, ap (λ (l : Layout). l .blocks) with-it)
 
   -- ---- after the last
 
@@ -197,7 +197,7 @@ module _ {es : List Entry} {gs : List Group} {trie notes₀ spots₀ : List (Lis
   -- with no block at all there is no layout: one always exists
   pub round-none : most < 1 → most < (laidOut gs) .blocks
   unfolding placeTasks
-  round-none h = let x = all-prefix block firstBlock begun 0 gs in let y = begun-one in omega (arith, x, y)
+  round-none h = let x = all-prefix block firstBlock oneBlock 0 gs in let y = begun-one in omega (arith, x, y)
     where
       begun-one : (laidOut (take 0 gs)) .blocks ≡ 1
       begun-one = refl

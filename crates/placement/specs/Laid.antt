@@ -11,7 +11,7 @@ use Rattle.list.specs.Limits.{alphabet, block, mostCells}
 use Rattle.list.specs.Limits as limits
 use Rattle.plan.specs.Names.{names}
 use Rattle.plan.specs.Groups.{Group, Grouping}
-use Rattle.plan.specs.Placement.{Placed, Layout, begun, placeAll}
+use Rattle.plan.specs.Placement.{Placed, Layout, oneBlock, placeAll}
 use Rattle.plan.specs.Placement as placing
 use Rattle.trie.specs.Trie.{Kid}
 use Rattle.trie.specs.Stands.{Stands}
@@ -30,7 +30,7 @@ firstBlock = placing.window limits.window
 
 -- the layout of groups in their order
 abbrev pub laidOut : List Group → Layout
-laidOut gs = placeAll block firstBlock begun gs
+laidOut gs = placeAll block firstBlock oneBlock gs
 
 -- root's cell is 0, dead's is 1, and each child of a placed group has the base xor its byte
 pub record Seated (es : List Entry) (notes : List (List ℕ)) (l : Layout) : Type 0 where

@@ -14,7 +14,7 @@ use Rattle.paper.proofs.Tests.{clash, and-left, and-right, and-both, or-left, o
 use Rattle.paper.proofs.Tests.{eq-eqb, ne-eqb, eqb-ne, leb-le, le-leb}
 use Rattle.paper.proofs.Order.{sorted-append, sorted-cases}
 use Rattle.plan.specs.Groups.{Group, bytesOf}
-use Rattle.plan.specs.Placement.{Placed, Layout, begun, anyOf, allOf, sits, takenCell, vacant, usedBase, fits, serves, grown}
+use Rattle.plan.specs.Placement.{Placed, Layout, oneBlock, anyOf, allOf, sits, takenCell, vacant, usedBase, fits, serves, grown}
 use Rattle.plan.specs.Placement.{placedBy, put, Alphabet, Lettered, Fits, OtherBase, OtherCells, Good}
 use Rattle.plan.proofs.Xor.{xor-twice, xor-byte, xor-below}
 use Rattle.plan.proofs.Scans.{any-in, to-any, any-append, all-in, to-all}
@@ -139,7 +139,7 @@ put-sorted l g i R s new =
 -- ---- good layouts
 
 module _ (a : ℕ) where
-  pub begun-good : Good a begun
+  pub begun-good : Good a oneBlock
   begun-good =
       record {
         some-block = omega arith;

@@ -39,9 +39,9 @@ out-append outs more (suc k) h l = List·getD-append outs more noOut k l
 pub chained-more : (outs more : List Out) (p : ℕ) (l : List Entry) → Chained outs p l → Chained (outs ++ more) p l
 chained-more outs more p [] c = c
 chained-more outs more p (x ∷ l) c =
-    let e = out-append outs more p (c .0 .begun) (c .0 .within) in (
+    let e = out-append outs more p (c .0 .some-place) (c .0 .within) in (
       record {
-        begun = c .0 .begun;
+        some-place = c .0 .some-place;
         within = omega (arith, length-append outs more, c .0 .within);
         same-row = rw e (c .0 .same-row);
         same-size = rw e (c .0 .same-size);
@@ -57,7 +57,7 @@ on-chain outs x head rest h c =
     let o : Out = record { row = x .row; size = length (x .word); next = head } in
     let e : outAt (outs ++ (o ∷ [])) (suc (length outs)) ≡ o = getD-append-seam outs o [] noOut in (
       record {
-        begun = omega arith;
+        some-place = omega arith;
         within = omega (arith, length-append outs (o ∷ []));
         same-row = rw e;
         same-size = rw e;

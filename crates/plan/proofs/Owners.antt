@@ -17,7 +17,7 @@ use Rattle.paper.proofs.Order.{not-head, sorted-cases}
 use Rattle.paper.proofs.Links.{Ended, none as nothing, last, ended}
 use Rattle.plan.specs.Breadth.{kidBytes, Bounded}
 use Rattle.plan.specs.Groups.{Group, bytesOf, groups, OtherParent, Grouping}
-use Rattle.plan.specs.Placement.{Placed, Layout, begun, takenCell, vacant, Task, placeTasks, tasks, placeAll, baseIn, baseOf}
+use Rattle.plan.specs.Placement.{Placed, Layout, oneBlock, takenCell, vacant, Task, placeTasks, tasks, placeAll, baseIn, baseOf}
 use Rattle.plan.specs.Placement.{cellFrom, cellOf, childAt, orElse, ownerIn, ownerOf, Alphabet, Reaches, Fair}
 use Rattle.plan.specs.Cells.{Full}
 use Rattle.plan.proofs.Breadth.{in-kid-bytes, to-kid-bytes}
@@ -120,11 +120,11 @@ owner-in-none (p ∷ ps) j e C =
 
 -- placing all groups, in any order and each with a range of its own, gives one
 pub tasks-full : (a : ℕ) (A : Alphabet a) (S : List ℕ → Bool) (ts : List Task) → ((t : Task) → List·Memᴰ t ts → Reaches (t .start))
-    → Grouping a S (map (λ t. t .group) ts) → Full a S (placeTasks a begun ts)
+    → Grouping a S (map (λ t. t .group) ts) → Full a S (placeTasks a oneBlock ts)
 tasks-full a A S ts R T =
     record {
-      good = tasks-good a A begun ts (begun-good a) fair;
-      grouping = rw (tasks-groups a A begun ts (begun-good a) fair) T;
+      good = tasks-good a A oneBlock ts (begun-good a) fair;
+      grouping = rw (tasks-groups a A oneBlock ts (begun-good a) fair) T;
     }
   where
     fair : (t : Task) → List·Memᴰ t ts → Fair a t
@@ -134,7 +134,7 @@ tasks-full a A S ts R T =
 
 -- and with one range for all
 pub placed-full : (a : ℕ) (A : Alphabet a) (start : ℕ → ℕ) → Reaches start → (S : List ℕ → Bool) (gs : List Group) → Grouping a S gs
-    → Full a S (placeAll a start begun gs)
+    → Full a S (placeAll a start oneBlock gs)
 placed-full a A start R S gs T =
     tasks-full a A S (tasks start gs)
     (λ t m. subst (λ (u : Task). Reaches (u .start)) (Memᴰ·of-map (λ g. record { start = start; group = g }) gs m .2) R)
@@ -142,7 +142,7 @@ placed-full a A start R S gs T =
 
 -- in particular the groups in the order of document 01
 pub groups-full : (a n : ℕ) (A : Alphabet a) (start : ℕ → ℕ) → Reaches start → (S : List ℕ → Bool) → Bounded a n S
-    → Full a S (placeAll a start begun (groups a S n))
+    → Full a S (placeAll a start oneBlock (groups a S n))
 groups-full a n A start R S L = placed-full a A start R S (groups a S n) (grouping a n S L)
 
 sorted-of-map : {X Y : Type 0} (R : Y → Y → Type 0) (f : X → Y) (l : List X) → Sorted R (map f l) → Sorted (λ x y. R (f x) (f y)) l

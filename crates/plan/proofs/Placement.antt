@@ -14,9 +14,9 @@ use lib.Bits.{bitXor}
 use lib.ListN.{length, take, drop, take-append-drop}
 use Rattle.paper.proofs.Tests.{clash, and-left, and-right, and-both, not-true→false}
 use Rattle.plan.specs.Groups.{Group}
-use Rattle.plan.specs.Placement.{Layout, takenCell, vacant, usedBase, fits, serves, look, window, grown, placedBy, put, onLook}
+use Rattle.plan.specs.Placement.{Layout, takenCell, vacant, usedBase, fits, serves, look, windowStart, grown, placedBy, put, onLook}
 use Rattle.plan.specs.Placement.{place, Task, placeTasks, tasks, placeAll, Alphabet, Reaches, Lettered, Fits, FirstIndex, NoIndex}
-use Rattle.plan.specs.Placement.{Found, Added, Fair, Good}
+use Rattle.plan.specs.Placement.{InRange, Added, Fair, Good}
 use Rattle.plan.proofs.Xor.{xor-above}
 use Rattle.plan.proofs.Scans.{first-some, first-none, to-first-some, to-first-none}
 use Rattle.plan.proofs.Layouts.{to-vacant, fits-is, fits-vacant, grown-good, put-good, sitting-within}
@@ -182,10 +182,10 @@ module _ (a : ℕ) (A : Alphabet a) where
         go (some i) e = (i, e)
 
     -- (q1) the base is that of the first index that serves; if none does, that of the first in the range with a block more
-    pub place-cases : Found a start l g (place a start l g) ⊎ Added a start l g (place a start l g)
+    pub place-cases : InRange a start l g (place a start l g) ⊎ Added a start l g (place a start l g)
     place-cases = go (look a start l g) refl
       where
-        go : (o : Option ℕ) → look a start l g ≡ o → Found a start l g (place a start l g) ⊎ Added a start l g (place a start l g)
+        go : (o : Option ℕ) → look a start l g ≡ o → InRange a start l g (place a start l g) ⊎ Added a start l g (place a start l g)
         go (some i) e = inl (record { index = i; chosen = look-some a start l g i e; is = place-here a start l g i e })
         go none e =
             let r = look-grown in
@@ -220,7 +220,7 @@ module _ (a : ℕ) (A : Alphabet a) where
     pub place-good : Good a (place a start l g)
     place-good = ⊎-elim found added place-cases
       where
-        found : Found a start l g (place a start l g) → Good a (place a start l g)
+        found : InRange a start l g (place a start l g) → Good a (place a start l g)
         found F = rw (F .is) (put-good a A l g (F .index) G T (F .chosen .within) (F .chosen .room))
 
         added : Added a start l g (place a start l g) → Good a (place a start l g)
@@ -300,8 +300,8 @@ module _ (a : ℕ) (A : Alphabet a) (start : ℕ → ℕ) (R : Reaches start) (l
 
 -- ---- the window
 
-pub window-reaches : (w : ℕ) → 1 ≤ w → Reaches (window w)
+pub window-reaches : (w : ℕ) → 1 ≤ w → Reaches (windowStart w)
 window-reaches w h b = omega arith
 
-pub window-rises : (w b : ℕ) → window w b ≤ window w (suc b)
+pub window-rises : (w b : ℕ) → windowStart w b ≤ windowStart w (suc b)
 window-rises w b = omega arith

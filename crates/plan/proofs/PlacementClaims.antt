@@ -1,5 +1,5 @@
 -- All claims hold: each field cites the law that proves it.
-use Rattle.plan.specs.Placement.{begun}
+use Rattle.plan.specs.Placement.{oneBlock}
 use Rattle.plan.specs.PlacementClaims.{PlacementClaims}
 use Rattle.plan.proofs.Groups.{grouping, groups-after, flat-root, flat-pop}
 use Rattle.plan.proofs.Layouts.{fits-is, begun-good, base-alone, cell-alone, child-inside, base-block}
@@ -20,8 +20,8 @@ placement =
       added = place-added;
       one-block = place-blocks;
       prefix = tasks-prefix;
-      placed = λ a A ts. tasks-groups a A begun ts (begun-good a);
-      good = λ a A ts. tasks-good a A begun ts (begun-good a);
+      placed = λ a A ts. tasks-groups a A oneBlock ts (begun-good a);
+      good = λ a A ts. tasks-good a A oneBlock ts (begun-good a);
       base-alone = base-alone;
       cell-alone = cell-alone;
       child-inside = child-inside;

@@ -61,7 +61,7 @@ outAt outs (suc k) = getD outs k noOut
 
 -- at place p there is an output, it is the entry's, and the next one's place is below p
 pub record Shows (outs : List Out) (p : ℕ) (x : Entry) : Type 0 where
-  pub begun : 0 < p
+  pub some-place : 0 < p
   pub within : p ≤ length outs
   pub same-row : (outAt outs p) .row ≡ x .row
   pub same-size : (outAt outs p) .size ≡ length (x .word)

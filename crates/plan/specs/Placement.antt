@@ -24,8 +24,8 @@ pub record Layout : Type 0 where
   pub placed : List Placed
 
 -- one block always exists
-abbrev pub begun : Layout
-begun = record { blocks = 1; placed = [] }
+abbrev pub oneBlock : Layout
+oneBlock = record { blocks = 1; placed = [] }
 
 -- an element passes
 unfoldable pub anyOf {ℓ} : {A : Type ℓ} → (A → Bool) → List A → Bool
@@ -76,9 +76,9 @@ firstFit l g i n = firstWhere (serves l g) i n
 unfoldable pub look : ℕ → (ℕ → ℕ) → Layout → Group → Option ℕ
 look a start l g = firstFit l g (start (l .blocks) * a) ((l .blocks - start (l .blocks)) * a)
 
--- the window: the last w blocks
-abbrev pub window : ℕ → ℕ → ℕ
-window w blocks = blocks - w
+-- the first block of the window: the last w blocks
+abbrev pub windowStart : ℕ → ℕ → ℕ
+windowStart w blocks = blocks - w
 
 -- one block more
 abbrev pub grown : Layout → Layout
@@ -196,7 +196,7 @@ NoIndex a start l g =
     (j : ℕ) → start (l .blocks) * a ≤ j → j < l .blocks * a → vacant l j ≡ true → fits l g (bitXor j (g .low)) ≡ false
 
 -- a group placed in the range as it is
-pub record Found (a : ℕ) (start : ℕ → ℕ) (l : Layout) (g : Group) (r : Layout) : Type 0 where
+pub record InRange (a : ℕ) (start : ℕ → ℕ) (l : Layout) (g : Group) (r : Layout) : Type 0 where
   pub index : ℕ
   pub chosen : FirstIndex a start l g index
   pub is : r ≡ put l g index
@@ -204,7 +204,7 @@ pub record Found (a : ℕ) (start : ℕ → ℕ) (l : Layout) (g : Group) (r : L
 -- a group placed in a block more, as the range as it is has no room
 pub record Added (a : ℕ) (start : ℕ → ℕ) (l : Layout) (g : Group) (r : Layout) : Type 0 where
   pub full : NoIndex a start l g
-  pub found : Found a start (grown l) g r
+  pub found : InRange a start (grown l) g r
 
 -- what the laws ask of a task
 pub record Fair (a : ℕ) (t : Task) : Type 0 where

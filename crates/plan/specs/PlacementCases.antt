@@ -9,7 +9,7 @@ use Rattle.paper.specs.Cases.{list1}
 use Rattle.plan.specs.Breadth.{breadth}
 use Rattle.plan.specs.Outputs.{Stored, storeAll, nothing}
 use Rattle.plan.specs.Groups.{groups}
-use Rattle.plan.specs.Placement.{Layout, begun, window, placeAll}
+use Rattle.plan.specs.Placement.{Layout, oneBlock, windowStart, placeAll}
 use Rattle.plan.specs.Cells.{Cell, cells}
 
 -- the machine of bcd, ab, a
@@ -18,7 +18,7 @@ machine1 = machine standard (rows list1)
 
 -- its layout: 256 letters, a window of 16 blocks, no state longer than 3
 abbrev pub layout1 : Layout
-layout1 = placeAll 256 (window 16) begun (groups 256 (machine1 .isState) 3)
+layout1 = placeAll 256 (windowStart 16) oneBlock (groups 256 (machine1 .isState) 3)
 
 -- its stored outputs
 abbrev pub stored1 : Stored
@@ -40,4 +40,4 @@ pub record PlacementCases : Type 0 where
       ∷ cell 0 7 2 98 2
       ∷ cell 97 0 0 98 1
       ∷ each 8 248 (λ j. cell 0 0 0 j 0 ∷ [])
-  pub p9 : (placeAll 256 (window 16) begun (groups 256 (isState []) 0)) .blocks ≡ 1
+  pub p9 : (placeAll 256 (windowStart 16) oneBlock (groups 256 (isState []) 0)) .blocks ≡ 1

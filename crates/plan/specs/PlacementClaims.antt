@@ -11,8 +11,8 @@ use Rattle.paper.specs.Lists.{snoc}
 use Rattle.paper.specs.Automaton.{Link, to}
 use Rattle.plan.specs.Breadth.{kidBytes, kids, Bounded}
 use Rattle.plan.specs.Groups.{Group, bytesOf, ownGroup, groups, flat, Grouping}
-use Rattle.plan.specs.Placement.{Placed, Layout, begun, takenCell, vacant, fits, grown, put, place, Task, placeTasks, baseOf}
-use Rattle.plan.specs.Placement.{cellOf, Alphabet, Reaches, Lettered, Fits, NoIndex, Found, Added, Fair, Good}
+use Rattle.plan.specs.Placement.{Placed, Layout, oneBlock, takenCell, vacant, fits, grown, put, place, Task, placeTasks, baseOf}
+use Rattle.plan.specs.Placement.{cellOf, Alphabet, Reaches, Lettered, Fits, NoIndex, InRange, Added, Fair, Good}
 use Rattle.plan.specs.Cells.{unusedIn, checkOf, linkCell, cellAt, Smallest, Full}
 
 -- the claims, in the order of the build
@@ -36,7 +36,7 @@ pub record PlacementClaims : Type 0 where
   -- the base taken is that of the first vacant index of the range whose base is nonzero, unused and has room; if there is none, a block
   -- is added, and it is that of the first such index of the range with the block
   pub chosen : (a : ℕ) → Alphabet a → (start : ℕ → ℕ) → Reaches start → (l : Layout) (g : Group) → Good a l → Lettered a g
-      → Found a start l g (place a start l g) ⊎ Added a start l g (place a start l g)
+      → InRange a start l g (place a start l g) ⊎ Added a start l g (place a start l g)
   -- if a block is added, and the range does not reach further back for it, the index is the first cell of the new block
   pub added : (a : ℕ) → Alphabet a → (start : ℕ → ℕ) → Reaches start → (l : Layout) (g : Group) → Good a l → Lettered a g
       → start (l .blocks) ≤ start (suc (l .blocks)) → NoIndex a start l g → place a start l g ≡ put (grown l) g (l .blocks * a)
@@ -47,9 +47,9 @@ pub record PlacementClaims : Type 0 where
   pub prefix : (a : ℕ) (l : Layout) (k : ℕ) (ts : List Task) → (placeTasks a l (take k ts)) .blocks ≤ (placeTasks a l ts) .blocks
   -- each group is placed, in its turn
   pub placed : (a : ℕ) → Alphabet a → (ts : List Task) → ((t : Task) → List·Memᴰ t ts → Fair a t)
-      → map (λ p. p .group) ((placeTasks a begun ts) .placed) ≡ map (λ t. t .group) ts
+      → map (λ p. p .group) ((placeTasks a oneBlock ts) .placed) ≡ map (λ t. t .group) ts
   -- the layout is good: no base is 0 or shared, no cell is shared, all is within the blocks, no child is in cell 0 or 1
-  pub good : (a : ℕ) → Alphabet a → (ts : List Task) → ((t : Task) → List·Memᴰ t ts → Fair a t) → Good a (placeTasks a begun ts)
+  pub good : (a : ℕ) → Alphabet a → (ts : List Task) → ((t : Task) → List·Memᴰ t ts → Fair a t) → Good a (placeTasks a oneBlock ts)
   -- no base is shared
   pub base-alone : (a : ℕ) (l : Layout) → Good a l → (p q : Placed) → List·Memᴰ p (l .placed) → List·Memᴰ q (l .placed)
       → p .base ≡ q .base → p ≡ q
@@ -72,7 +72,7 @@ pub record PlacementClaims : Type 0 where
 
   -- all groups of a set of states, placed in any order, give a full layout
   pub full : (a : ℕ) → Alphabet a → (S : List ℕ → Bool) (ts : List Task) → ((t : Task) → List·Memᴰ t ts → Reaches (t .start))
-      → Grouping a S (map (λ t. t .group) ts) → Full a S (placeTasks a begun ts)
+      → Grouping a S (map (λ t. t .group) ts) → Full a S (placeTasks a oneBlock ts)
   -- a probe from a state is accepted, its base not being 0, exactly where the state has the child
   pub probe : (a n : ℕ) → Alphabet a → (S : List ℕ → Bool) → Bounded a n S → (l : Layout) → Full a S l → (s : List ℕ) (c : ℕ)
       → ((baseOf l s ≢ 0) × (checkOf a l (bitXor (baseOf l s) c) ≡ c)) ↔ (S (snoc s c) ≡ true)

@@ -17,7 +17,7 @@ use Rattle.search.specs.declared.keep.Kept.{Kept}
 use Rattle.search.specs.declared.keep.Kept.the-variants as kept
 use Rattle.search.specs.Values.{Which, overlapping, plain, leftmost, valueOf, matchOf, Outcome, gives, ends, refuses}
 use Rattle.search.specs.Searches.{seekOf, keepOf, rest, cleared, from, isLeftmost, afterLeftmost, atOutput, atEnd, walkOf, nextOf}
-use Rattle.search.specs.Damage.{WalkMeets, KeepMeets, Shows, Damaged, at-first, in-walk, with-match}
+use Rattle.search.specs.Damage.{WalkMeets, KeepMeets, ShowsAtFirst, Damaged, at-first, in-walk, with-match}
 use Rattle.search.specs.Claims.{WrongKind}
 use Rattle.search.proofs.Hunting.{never}
 use Rattle.search.proofs.Stepping.{ended}
@@ -130,7 +130,7 @@ module _ (T : Tables) (kind : ℕ) (text : List ℕ) (v : Search) (short : lengt
   held-damaged leftmost q row at e M = rw (e, held-meets row at e .1 M)
 
   -- or anywhere
-  walk-damaged : (w : Which) → (Shows T kind (length text) v → ⊥) → Damaged w T kind text v → walkOf w T text v ≡ refuses 11 v
+  walk-damaged : (w : Which) → (ShowsAtFirst T kind (length text) v → ⊥) → Damaged w T kind text v → walkOf w T text v ≡ refuses 11 v
   walk-damaged w n (at-first S) = absurd (n S)
   walk-damaged w n (in-walk M) = rw (found-meets w .1 M)
   walk-damaged w n (with-match row at q e M) = held-damaged w q row at e M

@@ -16,7 +16,7 @@ use Rattle.search.specs.declared.Search.{Search}
 use Rattle.search.specs.Values.{Which, overlapping, plain, leftmost, refuses}
 use Rattle.search.specs.Admission.{otherKind, cellSlots}
 use Rattle.search.specs.Searches.{isLeftmost, walkOf, nextOf}
-use Rattle.search.specs.Damage.{Shows, kind-above-two, accepted-above-slots, cells-above-slots, state-past-cells, output-past-outputs, place-past-text, moves-above-twice-place}
+use Rattle.search.specs.Damage.{ShowsAtFirst, kind-above-two, accepted-above-slots, cells-above-slots, state-past-cells, output-past-outputs, place-past-text, moves-above-twice-place}
 use Rattle.search.specs.Claims.{WrongKind}
 
 -- ---- the kind
@@ -65,7 +65,7 @@ module _ (T : Tables) (kind size : ℕ) (v : Search) where
   abbrev shown : Bool
   shown = kinds || ((rows || slots) || (states || (outputs || (places || moves))))
 
-  shown-is : shown ≡ true → Shows T kind size v
+  shown-is : shown ≡ true → ShowsAtFirst T kind size v
   shown-is e =
       test kinds (λ h. kind-above-two (ltb-lt lastKind kind h))
       (λ a. test rows (λ h. accepted-above-slots (ltb-lt (length (T .outs)) (T .accepted) h))
@@ -76,7 +76,7 @@ module _ (T : Tables) (kind size : ℕ) (v : Search) where
       (λ g. test moves (λ h. moves-above-twice-place (ltb-lt (2 * v .place) (v .moves) h))
       (λ h. absurd (false≢true (rw (a, b, c, d, f, g, h) at e)))))))))
 
-  is-shown : Shows T kind size v → shown ≡ true
+  is-shown : ShowsAtFirst T kind size v → shown ≡ true
   is-shown (kind-above-two h) = or-left kinds _ (lt-ltb lastKind kind h)
   is-shown (accepted-above-slots h) = or-right kinds _ (or-left (rows || slots) _ (or-left rows slots (lt-ltb (length (T .outs)) (T .accepted) h)))
   is-shown (cells-above-slots h) = or-right kinds _ (or-left (rows || slots) _ (or-right rows slots (lt-ltb (cellSlots T) (T .cells) h)))
@@ -101,7 +101,7 @@ at-most : {a b : ℕ} → (b < a → ⊥) → a ≤ b
 at-most n = omega arith
 
 -- a value that shows no damage has it
-ready : (T : Tables) (kind size : ℕ) (v : Search) → (Shows T kind size v → ⊥) → Ready T size v
+ready : (T : Tables) (kind size : ℕ) (v : Search) → (ShowsAtFirst T kind size v → ⊥) → Ready T size v
 ready T kind size v n =
     let columns
     = under (T .cells) (length (T .base)) (length (T .link)) (length (T .output)) (length (T .check)) (length (T .depth))
@@ -123,9 +123,9 @@ ready T kind size v n =
 pub data Course (w : Which) (T : Tables) (kind : ℕ) (text : List ℕ) (v : Search) : Type 0 where
   wrong : WrongKind w kind → nextOf w T kind text v ≡ refuses 9 v → Course w T kind text v
   long : (WrongKind w kind → ⊥) → mostText < length text → nextOf w T kind text v ≡ refuses 10 v → Course w T kind text v
-  shows : (WrongKind w kind → ⊥) → length text ≤ mostText → Shows T kind (length text) v → nextOf w T kind text v ≡ refuses 11 v
+  shows : (WrongKind w kind → ⊥) → length text ≤ mostText → ShowsAtFirst T kind (length text) v → nextOf w T kind text v ≡ refuses 11 v
       → Course w T kind text v
-  walks : (WrongKind w kind → ⊥) → length text ≤ mostText → (Shows T kind (length text) v → ⊥) → Ready T (length text) v
+  walks : (WrongKind w kind → ⊥) → length text ≤ mostText → (ShowsAtFirst T kind (length text) v → ⊥) → Ready T (length text) v
       → nextOf w T kind text v ≡ walkOf w T text v
       → Course w T kind text v
 
@@ -141,5 +141,5 @@ course w T kind text v =
     let l = ltb-le mostText (length text) b in
     test (shown T kind (length text) v) (λ c. shows n l (shown-is T kind (length text) v c) (rw (a, b, c)))
     (λ c.
-    let none : Shows T kind (length text) v → ⊥ = λ h. clash (is-shown T kind (length text) v h) c in
+    let none : ShowsAtFirst T kind (length text) v → ⊥ = λ h. clash (is-shown T kind (length text) v h) c in
     walks n l none (ready T kind (length text) v none) (rw (a, b, c)))))

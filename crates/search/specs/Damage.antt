@@ -22,14 +22,14 @@ use Rattle.search.specs.Admission.{cellSlots}
 use Rattle.search.specs.Searches.{seekOf, shownAt, rest, from, isLeftmost}
 
 -- what shows before the walk, for a text of so many bytes
-pub data Shows (T : Tables) (kind size : ℕ) (v : Search) : Type 0 where
-  kind-above-two : lastKind < kind → Shows T kind size v
-  accepted-above-slots : length (T .outs) < T .accepted → Shows T kind size v
-  cells-above-slots : cellSlots T < T .cells → Shows T kind size v
-  state-past-cells : T .cells ≤ v .state .0 → Shows T kind size v
-  output-past-outputs : T .accepted < v .output → Shows T kind size v
-  place-past-text : size < v .place → Shows T kind size v
-  moves-above-twice-place : 2 * v .place < v .moves → Shows T kind size v
+pub data ShowsAtFirst (T : Tables) (kind size : ℕ) (v : Search) : Type 0 where
+  kind-above-two : lastKind < kind → ShowsAtFirst T kind size v
+  accepted-above-slots : length (T .outs) < T .accepted → ShowsAtFirst T kind size v
+  cells-above-slots : cellSlots T < T .cells → ShowsAtFirst T kind size v
+  state-past-cells : T .cells ≤ v .state .0 → ShowsAtFirst T kind size v
+  output-past-outputs : T .accepted < v .output → ShowsAtFirst T kind size v
+  place-past-text : size < v .place → ShowsAtFirst T kind size v
+  moves-above-twice-place : 2 * v .place < v .moves → ShowsAtFirst T kind size v
 
 -- what a hunt meets on a byte, from a state on
 pub data HuntMeets (falling : Bool) (T : Tables) (c : ℕ) : CellId → Type 0 where
@@ -81,7 +81,7 @@ pub data KeepMeets (T : Tables) : Search → List ℕ → Type 0 where
 
 -- a line of the list holds: of the kind, the counts or the value, or of what the walk met
 pub data Damaged (w : Which) (T : Tables) (kind : ℕ) (text : List ℕ) (v : Search) : Type 0 where
-  at-first : Shows T kind (length text) v → Damaged w T kind text v
+  at-first : ShowsAtFirst T kind (length text) v → Damaged w T kind text v
   in-walk : WalkMeets (isLeftmost w) T (from w v) (rest text (from w v)) → Damaged w T kind text v
   with-match : (row : Row) (at : Search) → w ≡ leftmost → seekOf true T (from w v) (rest text (from w v)) ≡ sought.Given row at
       → KeepMeets T at (rest text at)

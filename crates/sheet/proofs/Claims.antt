@@ -21,7 +21,7 @@ use Rattle.search.specs.Searches.{nextOf, unless, walkOf, isLeftmost}
 use Rattle.sheet.specs.declared.Stop as declared
 use Rattle.sheet.specs.declared.Stop.the-variants as stop
 use Rattle.sheet.specs.declared.Filled.{Filled}
-use Rattle.sheet.specs.Sheet.{recordOf, Stop, full, ended, refused, Load, stopping, before, onAnswer, loadOf, barred, atOnce, sheetOf, stopOf, Tells}
+use Rattle.sheet.specs.Sheet.{recordOf, Stop, full, ended, refused, Load, stopping, withRecord, onAnswer, loadOf, barred, atOnce, sheetOf, stopOf, Tells}
 use Rattle.sheet.specs.Claims.{after, SheetClaims}
 
 -- ---- one answer
@@ -57,7 +57,7 @@ isFull (refused n) = 2
 
 -- a match goes on like that, in so many slots
 abbrev goesOn : (Search → Outcome) → ℕ → Match → Search → Load
-goesOn next n m u = before (recordOf m) (loadOf next n u)
+goesOn next n m u = withRecord (recordOf m) (loadOf next n u)
 
 module _ (next : Search → Outcome) where
   within-by : (n : ℕ) (o : Outcome) → ((u : Search) → length (loadOf next n u .records) ≤ n) → length (onAnswer o (goesOn next n) .records) ≤ suc n
@@ -88,7 +88,7 @@ module _ (next : Search → Outcome) where
       → onAnswer o (goesOn next n) .stop ≡ full
       → onAnswer o (goesOn next (n + k)) ≡ after (onAnswer o (goesOn next n) .records) (loadOf next k (onAnswer o (goesOn next n) .value))
   unfolding isFull
-  joined-by n k (gives m u) more e = ap (before (recordOf m)) (more u e)
+  joined-by n k (gives m u) more e = ap (withRecord (recordOf m)) (more u e)
   joined-by n k (ends u) more e = absurd (omega (arith, ap isFull e))
   joined-by n k (refuses j u) more e = absurd (omega (arith, ap isFull e))
 

@@ -10,7 +10,7 @@ use Rattle.search.specs.declared.Match.{Match}
 use Rattle.search.specs.Values.{Outcome, gives, ends, refuses}
 use Rattle.sheet.specs.declared.Filled.{Filled}
 use Rattle.sheet.specs.Claims.{after}
-use Rattle.sheet.specs.Sheet.{recordOf, Stop, full, ended, refused, Load, stopping, before, onAnswer, loadOf, written, stopOf, Tells}
+use Rattle.sheet.specs.Sheet.{recordOf, Stop, full, ended, refused, Load, stopping, withRecord, onAnswer, loadOf, written, stopOf, Tells}
 
 -- ---- rows
 
@@ -38,20 +38,20 @@ module _ (next : Search → Outcome) where
   unfolding loadOf
   load-full n v e = ap (λ (k : ℕ). loadOf next k v) e
 
-  load-gives : (n k : ℕ) (v : Search) (m : Match) (u : Search) → n ≡ suc k → next v ≡ gives m u → loadOf next n v ≡ before (recordOf m) (loadOf next k u)
+  load-gives : (n k : ℕ) (v : Search) (m : Match) (u : Search) → n ≡ suc k → next v ≡ gives m u → loadOf next n v ≡ withRecord (recordOf m) (loadOf next k u)
   unfolding loadOf
   load-gives n k v m u e is =
-      ap (λ (j : ℕ). loadOf next j v) e ∙ ap (λ (o : Outcome). onAnswer o (λ m' u'. before (recordOf m') (loadOf next k u'))) is
+      ap (λ (j : ℕ). loadOf next j v) e ∙ ap (λ (o : Outcome). onAnswer o (λ m' u'. withRecord (recordOf m') (loadOf next k u'))) is
 
   load-ends : (n k : ℕ) (v u : Search) → n ≡ suc k → next v ≡ ends u → loadOf next n v ≡ stopping ended u
   unfolding loadOf
   load-ends n k v u e is =
-      ap (λ (j : ℕ). loadOf next j v) e ∙ ap (λ (o : Outcome). onAnswer o (λ m' u'. before (recordOf m') (loadOf next k u'))) is
+      ap (λ (j : ℕ). loadOf next j v) e ∙ ap (λ (o : Outcome). onAnswer o (λ m' u'. withRecord (recordOf m') (loadOf next k u'))) is
 
   load-refuses : (n k : ℕ) (v : Search) (why : ℕ) (u : Search) → n ≡ suc k → next v ≡ refuses why u → loadOf next n v ≡ stopping (refused why) u
   unfolding loadOf
   load-refuses n k v why u e is =
-      ap (λ (j : ℕ). loadOf next j v) e ∙ ap (λ (o : Outcome). onAnswer o (λ m' u'. before (recordOf m') (loadOf next k u'))) is
+      ap (λ (j : ℕ). loadOf next j v) e ∙ ap (λ (o : Outcome). onAnswer o (λ m' u'. withRecord (recordOf m') (loadOf next k u'))) is
 
   -- i slots are written, and what is still to come from the value at hand is the rest of the whole load
   pub record Filling (rows₀ : List (List ℕ)) (v₀ : Search) (rows : List (List ℕ)) (v : Search) (i : ℕ) : Type 0 where

@@ -39,8 +39,8 @@ abbrev pub stopping : Stop → Search → Load
 stopping stop v = record { records = []; stop = stop; value = v }
 
 -- one record more, before the others
-abbrev pub before : List ℕ → Load → Load
-before row l = record { records = row ∷ l .records; stop = l .stop; value = l .value }
+abbrev pub withRecord : List ℕ → Load → Load
+withRecord row l = record { records = row ∷ l .records; stop = l .stop; value = l .value }
 
 -- what an answer comes to, if a match goes on like this
 abbrev pub onAnswer : Outcome → (Match → Search → Load) → Load
@@ -51,7 +51,7 @@ onAnswer (refuses n u) goOn = stopping (refused n) u
 -- the answers of a search in turn, from a value on, in so many slots; a full sheet asks for no further answer
 unfoldable pub loadOf : (Search → Outcome) → ℕ → Search → Load
 loadOf next zero v = stopping full v
-loadOf next (suc n) v = onAnswer (next v) (λ m u. before (recordOf m) (loadOf next n u))
+loadOf next (suc n) v = onAnswer (next v) (λ m u. withRecord (recordOf m) (loadOf next n u))
 
 -- refusals 9 and 10, which come before an empty sheet is full
 abbrev pub barred : Bool → ℕ → ℕ → List Refusal

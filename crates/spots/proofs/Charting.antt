@@ -14,7 +14,7 @@ use Rattle.zeros.proofs.Rows.{field-set-same, field-set-other, field-zeros}
 use Rattle.paper.proofs.Tests.{eq-eqb, ne-eqb, or-right, lt-leb}
 use Rattle.list.specs.Limits.{alphabet, block}
 use Rattle.plan.specs.Groups.{Group, bytesOf}
-use Rattle.plan.specs.Placement.{Layout, begun, anyOf, sits, takenCell, vacant, usedBase, grown, put, Alphabet, Good}
+use Rattle.plan.specs.Placement.{Layout, oneBlock, anyOf, sits, takenCell, vacant, usedBase, grown, put, Alphabet, Good}
 use Rattle.plan.proofs.Layouts.{taken-put, used-put, to-vacant, sitting-within}
 use Rattle.trie.proofs.Inserting.{kept-field}
 use Rattle.spots.specs.Charted.{withTaken, withUsed, withSeated, Charted}
@@ -165,14 +165,14 @@ charted-put {rows} {l} C g i b e h within =
     bases d = rw e (sym (used-put l g i d))
 
 -- with nothing placed, root's and dead's cells are taken, and no base is used
-begun-cells : (j : ℕ) → (eqb 0 j || eqb 1 j) ≡ takenCell begun j
+begun-cells : (j : ℕ) → (eqb 0 j || eqb 1 j) ≡ takenCell oneBlock j
 unfolding takenCell anyOf
 begun-cells zero = refl
 begun-cells (suc zero) = refl
 begun-cells (suc (suc j)) =
     rw (ne-eqb 0 (suc (suc j)) (λ z. omega arith), ne-eqb 1 (suc (suc j)) (λ z. omega arith), lt-leb (suc (suc j)) 1 (omega arith))
 
-begun-bases : (b : ℕ) → false ≡ usedBase begun b
+begun-bases : (b : ℕ) → false ≡ usedBase oneBlock b
 unfolding usedBase anyOf
 begun-bases b = refl
 
@@ -187,7 +187,7 @@ chart-zeros n =
 
 -- the first layout: rows of zeros with root's and dead's cells taken
 pub charted-begun : (rows : List (List ℕ)) (n : ℕ) → rows ≡ replicate n (zeros 2) → 2 ≤ n
-    → Charted (withTaken (withTaken rows 0 1) 1 1) begun
+    → Charted (withTaken (withTaken rows 0 1) 1 1) oneBlock
 charted-begun rows n e two =
     charted
     (chart-same

@@ -152,13 +152,13 @@ begins-is output cells s p e =
     test (there cells (length output) s)
     (λ h. test (eqb (getD output s 0) 0) (λ z. absurd (false≢true (ap isBegun (rw (h, z) at e))))
     (λ z. let same : getD output s 0 ≡ p = ap begunOr (rw (h, z) at e) in
-    record { state = h; place = sym same; begun = rw (← same) (eqb-ne (getD output s 0) 0 z) }))
+    record { state = h; place = sym same; some-place = rw (← same) (eqb-ne (getD output s 0) 0 z) }))
     (λ h. absurd (false≢true (ap isBegun (rw h at e))))
 
 is-begins : (output : List ℕ) (cells s p : ℕ) → BeginsAt output cells s p → placeOf output cells s ≡ begins.At p
 unfolding placeOf
 is-begins output cells s p B =
-    let z : getD output s 0 ≡ 0 → ⊥ = rw (← B .place) (B .begun) in
+    let z : getD output s 0 ≡ 0 → ⊥ = rw (← B .place) (B .some-place) in
     rw (B .state, ne-eqb (getD output s 0) 0 z, B .place)
 
 without-is : (output : List ℕ) (cells s : ℕ) → placeOf output cells s ≡ begins.Nothing
@@ -234,7 +234,7 @@ module _ (outs : List (List ℕ)) (accepted place end : ℕ) where
       let n : field outs (place - 1) 2 ≡ next = ap nextOr (rw (z, h, f, k) at e) in
       let some = eqb-ne place 0 z in
       record {
-        begun = omega (arith, some);
+        some-place = omega (arith, some);
         inside = omega (arith, some, there-below accepted (length outs) (place - 1) h);
         lent = omega (arith, some, there-in accepted (length outs) (place - 1) h);
         value-is = sym v;
@@ -328,7 +328,7 @@ claims =
       childless = childless;
       damaged = λ base check cells s c. (damage-is base check cells s c, is-damage base check cells s c);
       leads = λ links depth cells s t. (leads-is links depth cells s t, is-leads links depth cells s t);
-      begun = λ output cells s p. (begins-is output cells s p, is-begins output cells s p);
+      begins-at = λ output cells s p. (begins-is output cells s p, is-begins output cells s p);
       without = λ output cells s. (without-is output cells s, is-without output cells s);
       astray = λ output cells s. (astray-is output cells s, is-astray output cells s);
       given = λ outs accepted place end value size next.

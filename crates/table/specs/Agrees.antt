@@ -57,26 +57,26 @@ cellIn base i [] = i
 cellIn base i (c ∷ w) = cellIn base (bitXor (getD base i 0) c) w
 
 -- the cell of a state; root's is 0
-abbrev pub cellOf : Tables → List ℕ → ℕ
-cellOf T s = cellIn (T .base) 0 s
+abbrev pub stateCell : Tables → List ℕ → ℕ
+stateCell T s = cellIn (T .base) 0 s
 
 -- the cell of a link's target; dead's is 1
 abbrev pub targetOf : Tables → Link → ℕ
 targetOf T dead = 1
-targetOf T (to r) = cellOf T r
+targetOf T (to r) = stateCell T r
 
 -- ---- the outputs
 
 -- at the place stands the entry, with its value and its length, for each end that leaves room for it; the next place is told
-pub record Tells (T : Tables) (values : List ℕ) (place : ℕ) (x : Entry) : Type 0 where
+pub record GivesAt (T : Tables) (values : List ℕ) (place : ℕ) (x : Entry) : Type 0 where
   pub next : ℕ
-  pub told : (end : ℕ) → length (x .word) ≤ end
+  pub given : (end : ℕ) → length (x .word) ≤ end
       → outputIn T place end ≡ shown.Given (record { value = getD values (x .row) 0; length = length (x .word); next = next })
 
 -- the chain from a place gives these entries, then nothing
 abbrev pub Chain : Tables → List ℕ → ℕ → List Entry → Type 0
 Chain T values place [] = place ≡ 0
-Chain T values place (x ∷ xs) = (t : Tells T values place x) × Chain T values (t .next) xs
+Chain T values place (x ∷ xs) = (t : GivesAt T values place x) × Chain T values (t .next) xs
 
 -- so does the chain of a state, which has no place if it has no entries
 abbrev pub ChainOf : Tables → List ℕ → Begins → List Entry → Type 0
@@ -104,20 +104,20 @@ pub record Agrees (T : Tables) (kind : Kind) (es : List Entry) (values : List �
   -- there is room for all of it
   pub rooms : Rooms T
   -- a state's cell is there
-  pub inside : (s : List ℕ) → isState es s ≡ true → cellOf T s < T .cells
+  pub inside : (s : List ℕ) → isState es s ≡ true → stateCell T s < T .cells
   -- no two states have the same cell
-  pub apart : (s t : List ℕ) → isState es s ≡ true → isState es t ≡ true → cellOf T s ≡ cellOf T t → s ≡ t
+  pub apart : (s t : List ℕ) → isState es s ≡ true → isState es t ≡ true → stateCell T s ≡ stateCell T t → s ≡ t
   -- no state has dead's cell
-  pub living : (s : List ℕ) → isState es s ≡ true → cellOf T s ≡ 1 → ⊥
+  pub living : (s : List ℕ) → isState es s ≡ true → stateCell T s ≡ 1 → ⊥
   -- a probe finds the child of a state that has it
-  pub child : (s : List ℕ) (c : ℕ) → isState es (snoc s c) ≡ true → probeIn T (cellOf T s) c ≡ found.At (record { 0 = cellOf T (snoc s c) })
+  pub child : (s : List ℕ) (c : ℕ) → isState es (snoc s c) ≡ true → probeIn T (stateCell T s) c ≡ found.At (record { 0 = stateCell T (snoc s c) })
   -- it finds nothing where the state has no such child
   pub childless : (s : List ℕ) (c : ℕ) → isState es s ≡ true → c < alphabet → isState es (snoc s c) ≡ false
-      → probeIn T (cellOf T s) c ≡ found.Nothing
+      → probeIn T (stateCell T s) c ≡ found.Nothing
   -- a state other than root links where the automaton says
   pub links : (x : ℕ) (xs : List ℕ) → isState es (x ∷ xs) ≡ true
-      → linkIn T (cellOf T (x ∷ xs)) ≡ linked.To (record { 0 = targetOf T (link (machine kind es) (x ∷ xs)) })
+      → linkIn T (stateCell T (x ∷ xs)) ≡ linked.To (record { 0 = targetOf T (link (machine kind es) (x ∷ xs)) })
   -- the depth of a state is its length
-  pub depths : (s : List ℕ) → isState es s ≡ true → getD (T .depth) (cellOf T s) 0 ≡ length s
+  pub depths : (s : List ℕ) → isState es s ≡ true → getD (T .depth) (stateCell T s) 0 ≡ length s
   -- a state's chain gives what the automaton puts out there
-  pub outputs : (s : List ℕ) → isState es s ≡ true → ChainOf T values (placeIn T (cellOf T s)) (output (machine kind es) s)
+  pub outputs : (s : List ℕ) → isState es s ≡ true → ChainOf T values (placeIn T (stateCell T s)) (output (machine kind es) s)

@@ -38,12 +38,12 @@ pub record LinksTo (links depth : List ℕ) (cells s t : ℕ) : Type 0 where
 pub record BeginsAt (output : List ℕ) (cells s p : ℕ) : Type 0 where
   pub state : there cells (length output) s ≡ true
   pub place : p ≡ getD output s 0
-  pub begun : p ≡ 0 → ⊥
+  pub some-place : p ≡ 0 → ⊥
 
 -- the place is one of the outputs and has a row, the three numbers are that row's, the next place is below its own, and the length is
 -- neither 0 nor above the end
 pub record GivenAt (outs : List (List ℕ)) (accepted place end value size next : ℕ) : Type 0 where
-  pub begun : 1 ≤ place
+  pub some-place : 1 ≤ place
   pub inside : place ≤ accepted
   pub lent : place ≤ length outs
   pub value-is : value ≡ field outs (place - 1) 0
@@ -73,7 +73,7 @@ pub record ReaderClaims : Type 0 where
   -- a link leads to t exactly if t is the state's target, both are cells, and t's depth is smaller; all else is damage
   pub leads : (links depth : List ℕ) (cells s t : ℕ) → (linkOf links depth cells s ≡ linked.To (record { 0 = t })) ↔ LinksTo links depth cells s t
   -- the outputs of a state begin at p exactly if p is the place in the state's cell and is not 0
-  pub begun : (output : List ℕ) (cells s p : ℕ) → (placeOf output cells s ≡ begins.At p) ↔ BeginsAt output cells s p
+  pub begins-at : (output : List ℕ) (cells s p : ℕ) → (placeOf output cells s ≡ begins.At p) ↔ BeginsAt output cells s p
   -- a state has no outputs exactly if its cell has place 0
   pub without : (output : List ℕ) (cells s : ℕ)
       → (placeOf output cells s ≡ begins.Nothing) ↔ ((there cells (length output) s ≡ true) × (getD output s 0 ≡ 0))

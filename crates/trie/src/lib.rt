@@ -209,7 +209,7 @@ fn add(trie: &mut [[u32; 5]], states: u32, slots: u32, part: &[u8]) -> Added
 }
 
 // Whether a state before the last byte of a pattern has an own output: then LeftmostFirst drops the pattern. Nothing is written.
-fn begun(trie: &[[u32; 5]], part: &[u8]) -> bool
+fn is_barred(trie: &[[u32; 5]], part: &[u8]) -> bool
     requires { ⌜ Known (now trie) 0 ⌝ }
     ensures { λ r. ⌜ ((names : List (List ℕ)) (es : List Entry) → Trie alphabet (slotsOf (now (trie .entry))) names → Owned (slotsOf (now (trie .entry))) names es
         → Covers names es → r ≡ barred es (now (part .entry))) ⌝ }
@@ -235,7 +235,7 @@ fn dropped(trie: &[[u32; 5]], drops: bool, part: &[u8]) -> bool
     ensures { λ r. ⌜ ((names : List (List ℕ)) (es : List Entry) → Trie alphabet (slotsOf (now (trie .entry))) names → Owned (slotsOf (now (trie .entry))) names es
         → Covers names es → r ≡ (drops && barred es (now (part .entry)))) ⌝ }
 {
-    if drops { begun(trie, part) } else { false }
+    if drops { is_barred(trie, part) } else { false }
 }
 
 // Root and dead, with no children and no own outputs.

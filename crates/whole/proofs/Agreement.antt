@@ -30,12 +30,12 @@ use Rattle.placement.specs.Laid.{firstBlock}
 use Rattle.cells.specs.Columns.{column}
 use Rattle.outputs.specs.Rows.{outRow, outRows}
 use Rattle.outputs.specs.Placed.{allStored}
-use Rattle.outputs.specs.Claims.{Tells, StoredClaims}
+use Rattle.outputs.specs.Claims.{GivesAt, StoredClaims}
 use Rattle.outputs.proofs.Claims.{tells-chained}
 use Rattle.outputs.proofs.Claims as outputting
 use Rattle.table.specs.Readers.{there}
 use Rattle.table.specs.Claims.{ChildAt}
-use Rattle.table.specs.Agrees.{Tables, probeIn, linkIn, placeIn, cellOf, targetOf, ChainOf, Rooms, Agrees}
+use Rattle.table.specs.Agrees.{Tables, probeIn, linkIn, placeIn, stateCell, targetOf, ChainOf, Rooms, Agrees}
 use Rattle.table.specs.declared.Found.{Found}
 use Rattle.table.specs.declared.Found.the-variants as found
 use Rattle.table.specs.declared.Linked.the-variants as linked
@@ -110,22 +110,22 @@ module _ (kind : Kind) (es : List Entry) (values : List ℕ) (n : Slots) (P : Pr
 
   -- ---- a state's cell is the one that the bases lead to
 
-  same-cell : (s : List ℕ) → S s ≡ true → cellOf T s ≡ placing.cellOf l s
+  same-cell : (s : List ℕ) → S s ≡ true → stateCell T s ≡ placing.cellOf l s
   same-cell =
-      by-snoc (λ (w : List ℕ). S w ≡ true → cellOf T w ≡ placing.cellOf l w) (λ _. cell-root T ∙ sym (owners.cell-root l))
+      by-snoc (λ (w : List ℕ). S w ≡ true → stateCell T w ≡ placing.cellOf l w) (λ _. cell-root T ∙ sym (owners.cell-root l))
       (λ w c ih h.
       let k = bounded .closed w c h in
       cell-child T w c
       ∙ ap (λ (b : ℕ). bitXor b c) (ap (λ (j : ℕ). getD (T .base) j 0) (ih k) ∙ at-state (λ x. x .base) (n .base) w k)
       ∙ sym (owners.cell-child l w c))
 
-  read : (part : Cell → ℕ) (slots : ℕ) (s : List ℕ) → S s ≡ true → getD (column part cs slots) (cellOf T s) 0 ≡ part (stateCell s)
+  read : (part : Cell → ℕ) (slots : ℕ) (s : List ℕ) → S s ≡ true → getD (column part cs slots) (stateCell T s) 0 ≡ part (stateCell s)
   read part slots s h = ap (λ (j : ℕ). getD (column part cs slots) j 0) (same-cell s h) ∙ at-state part slots s h
 
-  within : (s : List ℕ) → S s ≡ true → cellOf T s < l .blocks * block
+  within : (s : List ℕ) → S s ≡ true → stateCell T s < l .blocks * block
   within s h = rw (same-cell s h) (inside s h)
 
-  base-is : (s : List ℕ) → S s ≡ true → getD (T .base) (cellOf T s) 0 ≡ baseOf l s
+  base-is : (s : List ℕ) → S s ≡ true → getD (T .base) (stateCell T s) 0 ≡ baseOf l s
   base-is s h = read (λ x. x .base) (n .base) s h
 
   -- ---- probes
@@ -133,26 +133,26 @@ module _ (kind : Kind) (es : List Entry) (values : List ℕ) (n : Slots) (P : Pr
   check-is : (j : ℕ) → j < l .blocks * block → getD (T .check) j 0 ≡ checkOf block l j
   check-is j h = slot (λ x. x .check) (n .check) j h ∙ cell-check block l (link M) (stored .place) j
 
-  finds : (s : List ℕ) (c : ℕ) → S (snoc s c) ≡ true → probeIn T (cellOf T s) c ≡ found.At (record { 0 = cellOf T (snoc s c) })
+  finds : (s : List ℕ) (c : ℕ) → S (snoc s c) ≡ true → probeIn T (stateCell T s) c ≡ found.At (record { 0 = stateCell T (snoc s c) })
   finds s c h =
       let k = bounded .closed s c h in
-      claims .finds (T .base) (T .check) (T .cells) (cellOf T s) c (cellOf T (snoc s c)) .1
+      claims .finds (T .base) (T .check) (T .cells) (stateCell T s) c (stateCell T (snoc s c)) .1
       (record {
-        state = there-at (λ x. x .base) (n .base) (cellOf T s) (E .base-room) (within s k);
+        state = there-at (λ x. x .base) (n .base) (stateCell T s) (E .base-room) (within s k);
         parent = λ z. probe-exact alphabet mostBytes bytes S bounded l F s c .1 h .0 (sym (base-is s k) ∙ z);
         target = cell-child T s c;
-        cell = there-at (λ x. x .check) (n .check) (cellOf T (snoc s c)) (E .check-room) (within (snoc s c) h);
+        cell = there-at (λ x. x .check) (n .check) (stateCell T (snoc s c)) (E .check-room) (within (snoc s c) h);
         byte = read (λ x. x .check) (n .check) (snoc s c) h ∙ child-check alphabet mostBytes bytes S bounded l F s c h;
       })
 
   -- the base xor a byte is a cell
-  target-within : (s : List ℕ) (c : ℕ) → S s ≡ true → c < alphabet → (getD (T .base) (cellOf T s) 0 ≡ 0 → ⊥)
-      → bitXor (getD (T .base) (cellOf T s) 0) c < l .blocks * block
+  target-within : (s : List ℕ) (c : ℕ) → S s ≡ true → c < alphabet → (getD (T .base) (stateCell T s) 0 ≡ 0 → ⊥)
+      → bitXor (getD (T .base) (stateCell T s) 0) c < l .blocks * block
   target-within s c h b z =
       rw (base-is s h) (probe-within alphabet mostBytes bytes S bounded l F s c (λ e. z (base-is s h ∙ e)) b)
 
   -- what a probe finds is a child
-  found-child : (s : List ℕ) (c t : ℕ) → S s ≡ true → c < alphabet → ChildAt (T .base) (T .check) (T .cells) (cellOf T s) c t
+  found-child : (s : List ℕ) (c t : ℕ) → S s ≡ true → c < alphabet → ChildAt (T .base) (T .check) (T .cells) (stateCell T s) c t
       → S (snoc s c) ≡ true
   found-child s c t h b C =
       let at : t ≡ bitXor (baseOf l s) c = C .target ∙ ap (λ (i : ℕ). bitXor i c) (base-is s h) in
@@ -160,19 +160,19 @@ module _ (kind : Kind) (es : List Entry) (values : List ℕ) (n : Slots) (P : Pr
       let byte : checkOf block l t ≡ c = sym (check-is t low) ∙ C .byte in
       probe-exact alphabet mostBytes bytes S bounded l F s c .0 (λ z. C .parent (base-is s h ∙ z), rw (← at) byte)
 
-  finds-none : (s : List ℕ) (c : ℕ) → S s ≡ true → c < alphabet → S (snoc s c) ≡ false → probeIn T (cellOf T s) c ≡ found.Nothing
-  finds-none s c h b k = go (probeIn T (cellOf T s) c) refl
+  finds-none : (s : List ℕ) (c : ℕ) → S s ≡ true → c < alphabet → S (snoc s c) ≡ false → probeIn T (stateCell T s) c ≡ found.Nothing
+  finds-none s c h b k = go (probeIn T (stateCell T s) c) refl
     where
-      go : (r : Found) → probeIn T (cellOf T s) c ≡ r → probeIn T (cellOf T s) c ≡ found.Nothing
+      go : (r : Found) → probeIn T (stateCell T s) c ≡ r → probeIn T (stateCell T s) c ≡ found.Nothing
       go (found.At t) e =
-          clash (found-child s c (t .0) h b (claims .finds (T .base) (T .check) (T .cells) (cellOf T s) c (t .0) .0 e)) k
+          clash (found-child s c (t .0) h b (claims .finds (T .base) (T .check) (T .cells) (stateCell T s) c (t .0) .0 e)) k
       go found.Nothing e = e
       go found.Damage e =
-          ⊎-elim (λ z. clash (there-at (λ x. x .base) (n .base) (cellOf T s) (E .base-room) (within s h)) z)
+          ⊎-elim (λ z. clash (there-at (λ x. x .base) (n .base) (stateCell T s) (E .base-room) (within s h)) z)
           (λ z. clash
-          (there-at (λ x. x .check) (n .check) (bitXor (getD (T .base) (cellOf T s) 0) c) (E .check-room) (target-within s c h b (z .0)))
+          (there-at (λ x. x .check) (n .check) (bitXor (getD (T .base) (stateCell T s) 0) c) (E .check-room) (target-within s c h b (z .0)))
           (z .1))
-          (claims .damaged (T .base) (T .check) (T .cells) (cellOf T s) c .0 e)
+          (claims .damaged (T .base) (T .check) (T .cells) (stateCell T s) c .0 e)
 
   -- ---- links
 
@@ -186,19 +186,19 @@ module _ (kind : Kind) (es : List Entry) (values : List ℕ) (n : Slots) (P : Pr
 
   -- a state that is not root leads to a cell of smaller depth, if that is where its link goes
   leads : (s : List ℕ) (t : ℕ) → S s ≡ true → t ≡ linkCell l (link M s) → t < l .blocks * block → getD (T .depth) t 0 < length s
-      → linkIn T (cellOf T s) ≡ linked.To (record { 0 = t })
+      → linkIn T (stateCell T s) ≡ linked.To (record { 0 = t })
   leads s t h e k d =
-      claims .leads (T .link) (T .depth) (T .cells) (cellOf T s) t .1
+      claims .leads (T .link) (T .depth) (T .cells) (stateCell T s) t .1
       (record {
-        linking = there-at (λ x. x .link) (n .link) (cellOf T s) (E .link-room) (within s h);
-        state = there-at (λ x. x .depth) (n .depth) (cellOf T s) (E .depth-room) (within s h);
+        linking = there-at (λ x. x .link) (n .link) (stateCell T s) (E .link-room) (within s h);
+        state = there-at (λ x. x .depth) (n .depth) (stateCell T s) (E .depth-room) (within s h);
         target = e ∙ sym (read (λ x. x .link) (n .link) s h);
         cell = there-at (λ x. x .depth) (n .depth) t (E .depth-room) k;
         falls = rw (read (λ x. x .depth) (n .depth) s h) d;
       })
 
   follows : (x : ℕ) (xs : List ℕ) → S (x ∷ xs) ≡ true
-      → linkIn T (cellOf T (x ∷ xs)) ≡ linked.To (record { 0 = targetOf T (link M (x ∷ xs)) })
+      → linkIn T (stateCell T (x ∷ xs)) ≡ linked.To (record { 0 = targetOf T (link M (x ∷ xs)) })
   follows x xs h =
       link-cases M laws (x ∷ xs)
       (λ _ e. rw e (leads (x ∷ xs) 1 h (rw e refl) (omega (arith, two)) (omega (arith, dead-depth))))
@@ -206,7 +206,7 @@ module _ (kind : Kind) (es : List Entry) (values : List ℕ) (n : Slots) (P : Pr
       let r : List ℕ = failure S (x ∷ xs) in
       let k = failure-is-state M laws (x ∷ xs) in
       rw e
-      (leads (x ∷ xs) (cellOf T r) h (rw e (same-cell r k)) (within r k)
+      (leads (x ∷ xs) (stateCell T r) h (rw e (same-cell r k)) (within r k)
       (omega (arith, read (λ y. y .depth) (n .depth) r k, failure-shorter M laws x xs))))
 
   -- ---- outputs
@@ -223,13 +223,13 @@ module _ (kind : Kind) (es : List Entry) (values : List ℕ) (n : Slots) (P : Pr
         kept .counted,
       )
 
-  chains : (s : List ℕ) → S s ≡ true → ChainOf T values (placeIn T (cellOf T s)) (output M s)
+  chains : (s : List ℕ) → S s ≡ true → ChainOf T values (placeIn T (stateCell T s)) (output M s)
   chains s h =
-      told-state T values outs-long (cellOf T s) (output M s)
-      (there-at (λ x. x .output) (n .output) (cellOf T s) (E .output-room) (within s h))
+      told-state T values outs-long (stateCell T s) (output M s)
+      (there-at (λ x. x .output) (n .output) (stateCell T s) (E .output-room) (within s h))
       (chain-filled kind es (length s) s)
       (rw (read (λ x. x .output) (n .output) s h)
-      (subst (λ (k : ℕ). Tells values (T .outs) k (stored .place s) (output M s)) (kept .counted)
+      (subst (λ (k : ℕ). GivesAt values (T .outs) k (stored .place s) (output M s)) (kept .counted)
       (tells-chained values (stored .outs) (replicate (n .outs - length es) (zeros 3)) (stored .place s) (output M s) (kept .chained s h))))
 
   -- ---- all of it

@@ -11,7 +11,7 @@ use Rattle.zeros.specs.Rows.{field}
 use Rattle.paper.specs.Patterns.{Entry, Kind}
 use Rattle.paper.specs.Automaton.{machine, ownOf, Link, dead, to, link, onward, chain}
 use Rattle.paper.proofs.Leftmost.{in-own}
-use Rattle.outputs.specs.Claims.{Tells}
+use Rattle.outputs.specs.Claims.{RowsChained}
 use Rattle.table.specs.declared.Begins.{Begins}
 use Rattle.table.specs.declared.Begins.the-variants as begins
 use Rattle.table.specs.Readers.{there}
@@ -38,14 +38,14 @@ chain-filled kind es (suc n) (y ∷ ys) x m =
 -- ---- the reader gives what the rows tell
 
 told-chain : (T : Tables) (values : List ℕ) → T .accepted ≤ length (T .outs) → (p : ℕ) (l : List Entry)
-    → ((x : Entry) → List·Memᴰ x l → 0 < length (x .word)) → Tells values (T .outs) (T .accepted) p l → Chain T values p l
+    → ((x : Entry) → List·Memᴰ x l → 0 < length (x .word)) → RowsChained values (T .outs) (T .accepted) p l → Chain T values p l
 told-chain T values room p [] f t = t
 told-chain T values room p (x ∷ l) f t = (
   record {
     next = field (T .outs) (p - 1) 2;
-    told = λ end h. claims .given (T .outs) (T .accepted) p end (getD values (x .row) 0) (length (x .word)) (field (T .outs) (p - 1) 2) .1
+    given = λ end h. claims .given (T .outs) (T .accepted) p end (getD values (x .row) 0) (length (x .word)) (field (T .outs) (p - 1) 2) .1
         (record {
-          begun = t .0 .begun;
+          some-place = t .0 .some-place;
           inside = t .0 .within;
           lent = omega (arith, t .0 .within);
           value-is = sym (t .0 .value);
@@ -61,16 +61,16 @@ told-chain T values room p (x ∷ l) f t = (
 
 -- ---- the chain of a state begins at the place in its cell
 
-none-told : (values : List ℕ) (outs : List (List ℕ)) (count : ℕ) (l : List Entry) → Tells values outs count 0 l → l ≡ []
+none-told : (values : List ℕ) (outs : List (List ℕ)) (count : ℕ) (l : List Entry) → RowsChained values outs count 0 l → l ≡ []
 none-told values outs count [] t = refl
-none-told values outs count (x ∷ l) t = absurd (omega (arith, t .0 .begun))
+none-told values outs count (x ∷ l) t = absurd (omega (arith, t .0 .some-place))
 
 chain-of : (T : Tables) (values : List ℕ) (l : List Entry) (b c : Begins) → b ≡ c → ChainOf T values c l → ChainOf T values b l
 chain-of T values l b c e h = subst (λ (d : Begins). ChainOf T values d l) (sym e) h
 
 pub told-state : (T : Tables) (values : List ℕ) → T .accepted ≤ length (T .outs) → (i : ℕ) (l : List Entry)
     → there (T .cells) (length (T .output)) i ≡ true → ((x : Entry) → List·Memᴰ x l → 0 < length (x .word))
-    → Tells values (T .outs) (T .accepted) (getD (T .output) i 0) l → ChainOf T values (placeIn T i) l
+    → RowsChained values (T .outs) (T .accepted) (getD (T .output) i 0) l → ChainOf T values (placeIn T i) l
 told-state T values room i l h f t =
     elim (ℕ-discrete (getD (T .output) i 0) 0) [
       | yes z ↦
@@ -78,6 +78,6 @@ told-state T values room i l h f t =
           (none-told values (T .outs) (T .accepted) l (rw z at t))
       | no z ↦
           chain-of T values l (placeIn T i) (begins.At (getD (T .output) i 0))
-          (claims .begun (T .output) (T .cells) i (getD (T .output) i 0) .1 (record { state = h; place = refl; begun = z }))
+          (claims .begins-at (T .output) (T .cells) i (getD (T .output) i 0) .1 (record { state = h; place = refl; some-place = z }))
           (told-chain T values room (getD (T .output) i 0) l f t)
     ]

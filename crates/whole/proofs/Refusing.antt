@@ -12,7 +12,7 @@ use Rattle.paper.proofs.Tests.{lt-ltb, le-ltb}
 use Rattle.list.specs.Limits.{mostCells}
 use Rattle.list.specs.Refusals.{lowest}
 use Rattle.whole.specs.Whole.{stateCount, cellCount}
-use Rattle.whole.specs.Refusing.{Lent, tableRefusals, Fits}
+use Rattle.whole.specs.Refusing.{Lent, tableRefusals, Suffices}
 
 over : (a b n : ℕ) → (a < n) ⊎ (b < n) → (ltb a n || ltb b n) ≡ true
 over a b n q = ⊎-elim (λ h. rw (lt-ltb a n h)) (λ h. rw (lt-ltb b n h) (or-true (ltb a n))) q
@@ -33,7 +33,7 @@ module _ (es : List Entry) (lent : Lent) where
   lowest-eight h i j k =
       rw (le-ltb (lent .states) (stateCount es) h, le-ltb (lent .cells) (cellCount es) i, le-ltb mostCells (cellCount es) j, lt-ltb (lent .outputs) (length es) k)
 
-  pub lowest-fitting : Fits es lent → lowest (tableRefusals es lent) ≡ none
+  pub lowest-fitting : Suffices es lent → lowest (tableRefusals es lent) ≡ none
   unfolding tableRefusals lowest
   lowest-fitting F =
       rw (

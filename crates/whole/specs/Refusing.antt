@@ -30,7 +30,7 @@ unfoldable pub allRefusals : ℕ → List ℕ → List ℕ → List ℕ → Lent
 allRefusals kind bytes ends values slots = refusals kind bytes ends values ++ tableRefusals (acceptedOf kind bytes ends) slots
 
 -- the slots suffice
-pub record Fits (es : List Entry) (slots : Lent) : Type 0 where
+pub record Suffices (es : List Entry) (slots : Lent) : Type 0 where
   pub states : stateCount es ≤ slots .states
   pub cells : cellCount es ≤ slots .cells
   pub most : cellCount es ≤ mostCells

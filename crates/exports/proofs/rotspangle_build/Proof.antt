@@ -62,7 +62,7 @@ same-length-10 c = search needs
 
 -- src/lib.rt:54:1
 returns : tie.Need-returns
-returns c = record { built = c .before .before .before .before .before .before .before .before .before .before .before .before .before .before .before .before .before .build .result; promised = c .before .before .before .before .before .before .before .before .before .before .before .before .before .before .before .before .before .build .ensures; numbered = c .number-of .ensures; told = c .before .beside-of .ensures }
+returns c = record { built = c .before .before .before .before .before .before .before .before .before .before .before .before .before .before .before .before .before .build .result; promised = c .before .before .before .before .before .before .before .before .before .before .before .before .before .before .before .before .before .build .ensures; numbered = c .number-of .ensures; beside-is = c .before .beside-of .ensures }
 
 pub rotspangle-build-spec : {M : Type 1} → statement M
 rotspangle-build-spec =

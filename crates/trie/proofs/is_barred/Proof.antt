@@ -1,4 +1,4 @@
--- `begun` walks down the trie and meets an own output before the last byte exactly if an entry is a proper prefix.
+-- `is_barred` walks down the trie and meets an own output before the last byte exactly if an entry is a proper prefix.
 use mathlib.Core.Path.{sym, _∙_}
 use mathlib.Core.List.{List}
 use Prim.Native.Nat.{ℕ, _≤_, _<_, _-_}
@@ -11,10 +11,10 @@ use Rattle.trie.specs.Trie.{slotsOf, Trie}
 use Rattle.trie.specs.Owned.{Owned, Covers}
 use Rattle.trie.proofs.Adding.{located-at, located-between}
 use Rattle.trie.proofs.Dropping.{Walking, walking, met, missing, onward, through}
-use Rattle.trie.proofs.begun.Statement.{statement}
-use Rattle.trie.proofs.begun.Tie as tie
-use Rattle.trie.proofs.begun.Reads as reads
-use Rattle.trie.proofs.begun.Lts as lts
+use Rattle.trie.proofs.is_barred.Statement.{statement}
+use Rattle.trie.proofs.is_barred.Tie as tie
+use Rattle.trie.proofs.is_barred.Reads as reads
+use Rattle.trie.proofs.is_barred.Lts as lts
 use Rattle.trie.proofs.locate.Reads as locate-reads
 use Rattle.trie.proofs.own.Reads as own-reads
 use Rattle.trie.proofs.wide.Reads as wide-reads
@@ -92,8 +92,8 @@ loop-again c = (
 returns-3 : tie.Need-returns-3 Inv-loop μ-loop
 returns-3 c = λ names es I O C. sym (through I O C (c .before .loop .inv .2 names es I O C) (omega arith))
 
-pub begun-spec : {M : Type 1} → statement M
-begun-spec =
+pub is-barred-spec : {M : Type 1} → statement M
+is-barred-spec =
     tie.close
     (tie.spec
     Inv-loop
