@@ -26,7 +26,7 @@ withCell rows k v = set rows k (field rows k 0 ∷ field rows k 1 ∷ field rows
 
 -- the block at which the range begins: it has the last blocks of so many
 abbrev pub firstBlock : ℕ → ℕ
-firstBlock = placing.window limits.window
+firstBlock = placing.windowStart limits.windowBlocks
 
 -- the layout of groups in their order
 abbrev pub laidOut : List Group → Layout
