@@ -30,7 +30,7 @@ use Rattle.placement.specs.Laid.{firstBlock}
 use Rattle.cells.specs.Columns.{column}
 use Rattle.outputs.specs.Rows.{outRow, outRows}
 use Rattle.outputs.specs.Placed.{allStored}
-use Rattle.outputs.specs.Claims.{GivesAt, StoredClaims}
+use Rattle.outputs.specs.Claims.{RowsChained, StoredClaims}
 use Rattle.outputs.proofs.Claims.{tells-chained}
 use Rattle.outputs.proofs.Claims as outputting
 use Rattle.table.specs.Readers.{there}
@@ -85,9 +85,9 @@ module _ (kind : Kind) (es : List Entry) (values : List ℕ) (n : Slots) (P : Pr
   inside : (s : List ℕ) → S s ≡ true → placing.cellOf l s < l .blocks * block
   inside s h = cell-within alphabet mostBytes bytes S bounded l F s h
 
-  -- the cell of a state
-  abbrev stateCell : List ℕ → Cell
-  stateCell s =
+  -- what the cell of a state holds
+  abbrev stateFields : List ℕ → Cell
+  stateFields s =
       record {
         base = baseOf l s;
         link = linkCell l (link M s);
@@ -96,7 +96,7 @@ module _ (kind : Kind) (es : List Entry) (values : List ℕ) (n : Slots) (P : Pr
         depth = length s;
       }
 
-  at-state : (part : Cell → ℕ) (slots : ℕ) (s : List ℕ) → S s ≡ true → getD (column part cs slots) (placing.cellOf l s) 0 ≡ part (stateCell s)
+  at-state : (part : Cell → ℕ) (slots : ℕ) (s : List ℕ) → S s ≡ true → getD (column part cs slots) (placing.cellOf l s) 0 ≡ part (stateFields s)
   at-state part slots s h =
       slot part slots (placing.cellOf l s) (inside s h)
       ∙ ap part (state-cell alphabet mostBytes bytes S bounded l F (link M) (stored .place) (ruled M laws .root) s h)
@@ -119,7 +119,7 @@ module _ (kind : Kind) (es : List Entry) (values : List ℕ) (n : Slots) (P : Pr
       ∙ ap (λ (b : ℕ). bitXor b c) (ap (λ (j : ℕ). getD (T .base) j 0) (ih k) ∙ at-state (λ x. x .base) (n .base) w k)
       ∙ sym (owners.cell-child l w c))
 
-  read : (part : Cell → ℕ) (slots : ℕ) (s : List ℕ) → S s ≡ true → getD (column part cs slots) (stateCell T s) 0 ≡ part (stateCell s)
+  read : (part : Cell → ℕ) (slots : ℕ) (s : List ℕ) → S s ≡ true → getD (column part cs slots) (stateCell T s) 0 ≡ part (stateFields s)
   read part slots s h = ap (λ (j : ℕ). getD (column part cs slots) j 0) (same-cell s h) ∙ at-state part slots s h
 
   within : (s : List ℕ) → S s ≡ true → stateCell T s < l .blocks * block
@@ -229,7 +229,7 @@ module _ (kind : Kind) (es : List Entry) (values : List ℕ) (n : Slots) (P : Pr
       (there-at (λ x. x .output) (n .output) (stateCell T s) (E .output-room) (within s h))
       (chain-filled kind es (length s) s)
       (rw (read (λ x. x .output) (n .output) s h)
-      (subst (λ (k : ℕ). GivesAt values (T .outs) k (stored .place s) (output M s)) (kept .counted)
+      (subst (λ (k : ℕ). RowsChained values (T .outs) k (stored .place s) (output M s)) (kept .counted)
       (tells-chained values (stored .outs) (replicate (n .outs - length es) (zeros 3)) (stored .place s) (output M s) (kept .chained s h))))
 
   -- ---- all of it
