@@ -64,14 +64,9 @@ standard-day bytes ends values text b B C short =
     let D = meaning.claims .standard-holds (tablesLeft b) es values text (agrees b B) C short in
     let P = rows-proper (patternsOf bytes ends) (filled b) in
     record {
-      overlapping-says = λ n. rw (kind-is b) (D .overlapping-says n);
+      demands = rw (kind-is b) D;
       overlapping-list = lists .overlapping-is es text P;
-      plain-says = λ n. rw (kind-is b) (D .plain-says n);
       plain-list = lists .plain-is es text P;
-      overlapping-moves = rw (kind-is b) (D .overlapping-moves);
-      plain-moves = rw (kind-is b) (D .plain-moves);
-      overlapping-bound = rw (kind-is b) (D .overlapping-bound);
-      plain-bound = rw (kind-is b) (D .plain-bound);
     }
 
 kind-of : (c : Choice) → kindOf (kindNumber c) ≡ leftmost c
@@ -87,7 +82,11 @@ leftmost-day c bytes ends values text b B C short =
     = rw (← kind-of c) (agrees b B) in
     let D = meaning.claims .leftmost-holds (tablesLeft b) c ps values text (filled b) A C short in
     record {
-      leftmost-says = λ n. rw (kind-is b) (D .leftmost-says n ∙ ap (λ (l : List Occurrence). thenEnd n (withPayloads (valueIn values) l)) (lists .same-list c ps text (filled b)));
+      demands = rw (kind-is b)
+          (record {
+            leftmost-says = λ n. D .leftmost-says n ∙ ap (λ (l : List Occurrence). thenEnd n (withPayloads (valueIn values) l)) (lists .same-list c ps text (filled b));
+            leftmost-moves = D .leftmost-moves;
+          });
       leftmost-list = lists .leftmost-is c (rows ps) text (rows-proper ps (filled b));
     }
 
