@@ -9,7 +9,8 @@ use Rattle.paper.proofs.Tests.{test, lt-ltb, ltb-lt, ltb-le, le-ltb}
 use Rattle.list.specs.Limits.{block, mostCells}
 use Rattle.list.proofs.Slots.{smaller-left, smaller-right}
 use Rattle.table.specs.Slots.{columnSlots}
-use Rattle.table.proofs.Columns.{Under, under}
+use Rattle.table.specs.Claims.{Under}
+use Rattle.table.proofs.Columns.{under}
 use Rattle.build.specs.Outcome.{cellSlots, blocksIn}
 
 -- a number of cells lies within the chart and within the columns
