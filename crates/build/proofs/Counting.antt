@@ -10,7 +10,8 @@ use Rattle.list.specs.Limits.{block, mostCells}
 use Rattle.list.proofs.Slots.{smaller-left, smaller-right}
 use Rattle.table.specs.Slots.{columnSlots}
 use Rattle.table.proofs.Columns.{Under, under}
-use Rattle.build.specs.Outcome.{cellSlots, blocksIn}
+use Rattle.build.specs.Lot.{cellSlots}
+use Rattle.build.specs.Phases.{blocksIn}
 
 -- a number of cells lies within the chart and within the columns
 pub record Lying (n spots base link output check depth : ℕ) : Type 0 where

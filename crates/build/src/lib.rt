@@ -7,6 +7,7 @@ use wipe::wipe_results;
 use wipe::wipe_working;
 ghost use mathlib.Core.Path.{_≡_};
 ghost use Rattle.list.specs.Claims.{Sound};
+ghost use Rattle.build.specs.Lot.{lotOf};
 ghost use Rattle.build.specs.Outcome.{TableRefusal, answer, refusal};
 ghost use Rattle.build.specs.Promise.{Promise};
 
@@ -69,10 +70,10 @@ fn make(
 ) -> Built
     requires { ⌜ Sound kind (now bytes) (now ends) (now values) ⌝ }
     ensures { λ r. ⌜ Promise kind (now (bytes .entry)) (now (ends .entry)) (now (values .entry))
-        (now (trie .entry)) (now (owns .entry)) (now (notes .entry)) (now (spots .entry))
-        (now (base .entry)) (now (link .entry)) (now (output .entry)) (now (check .entry)) (now (depth .entry)) (now (outs .entry))
-        (now (trie .exit)) (now (owns .exit)) (now (notes .exit)) (now (spots .exit))
-        (now (base .exit)) (now (link .exit)) (now (output .exit)) (now (check .exit)) (now (depth .exit)) (now (outs .exit)) r ⌝ }
+        (lotOf (now (trie .entry)) (now (owns .entry)) (now (notes .entry)) (now (spots .entry))
+        (now (base .entry)) (now (link .entry)) (now (output .entry)) (now (check .entry)) (now (depth .entry)) (now (outs .entry)))
+        (lotOf (now (trie .exit)) (now (owns .exit)) (now (notes .exit)) (now (spots .exit))
+        (now (base .exit)) (now (link .exit)) (now (output .exit)) (now (check .exit)) (now (depth .exit)) (now (outs .exit))) r ⌝ }
 {
     zeros::zero_pairs(spots);
     wipe_results(base, link, output, check, depth, outs);
@@ -129,10 +130,10 @@ pub fn build(
     outs: &mut [[u32; 3]],
 ) -> Built
     ensures { λ r. ⌜ Promise kind (now (bytes .entry)) (now (ends .entry)) (now (values .entry))
-        (now (trie .entry)) (now (owns .entry)) (now (notes .entry)) (now (spots .entry))
-        (now (base .entry)) (now (link .entry)) (now (output .entry)) (now (check .entry)) (now (depth .entry)) (now (outs .entry))
-        (now (trie .exit)) (now (owns .exit)) (now (notes .exit)) (now (spots .exit))
-        (now (base .exit)) (now (link .exit)) (now (output .exit)) (now (check .exit)) (now (depth .exit)) (now (outs .exit)) r ⌝ }
+        (lotOf (now (trie .entry)) (now (owns .entry)) (now (notes .entry)) (now (spots .entry))
+        (now (base .entry)) (now (link .entry)) (now (output .entry)) (now (check .entry)) (now (depth .entry)) (now (outs .entry)))
+        (lotOf (now (trie .exit)) (now (owns .exit)) (now (notes .exit)) (now (spots .exit))
+        (now (base .exit)) (now (link .exit)) (now (output .exit)) (now (check .exit)) (now (depth .exit)) (now (outs .exit))) r ⌝ }
 {
     match list::check_list(kind, bytes, ends, values) {
         Listing::BadKind => return Built::BadKind,

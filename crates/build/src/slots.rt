@@ -4,7 +4,8 @@ use table::Depth;
 use table::slots::column_slots;
 ghost use mathlib.Core.Path.{_≡_};
 ghost use lib.ListN.{length};
-ghost use Rattle.build.specs.Outcome.{cellSlots, blocksIn};
+ghost use Rattle.build.specs.Lot.{cellSlots};
+ghost use Rattle.build.specs.Phases.{blocksIn};
 
 pub(crate) fn cell_slots(
     spots: &[[u32; 2]],

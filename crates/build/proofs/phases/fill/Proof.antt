@@ -60,7 +60,7 @@ same-length-7 c = search needs
 returns : tie.Need-returns
 returns c = λ kind es F.
     let P = c .before .before .before .before .before .before .before .before .before .before .before .before .before .before .before .before .before .before .before .store-outputs .ensures kind es (F .tabled) in
-    filled F P refl (c .before .before .before .before .before .before .before .before .before .before .write-cells .ensures es _ _ _ (writable F P (c .before .before .before .before .before .before .before .before .before .before .before .before .before .before .before .before .before .before .before .store-outputs .kept .1 .1 .0)) (F .blanks))
+    filled F P (c .before .before .before .before .before .before .before .before .before .before .write-cells .ensures es _ _ _ (writable F P (c .before .before .before .before .before .before .before .before .before .before .before .before .before .before .before .before .before .before .before .store-outputs .kept .1 .1 .0)) (F .blanks))
 
 pub fill-spec : {M : Type 1} → statement M
 fill-spec =
