@@ -28,7 +28,7 @@ lying n spots base link output check depth h =
 pub blocks-few : (slots : ℕ) → slots < mostCells → slots / block ≡ blocksIn slots
 blocks-few slots h = rw (lt-ltb slots mostCells h)
 
-pub blocks-many : (slots : ℕ) → mostCells ≤ slots → 256 ≡ blocksIn slots
+pub blocks-many : (slots : ℕ) → mostCells ≤ slots → mostCells / block ≡ blocksIn slots
 blocks-many slots h = rw (le-ltb slots mostCells h)
 
 pub blocks-room : (slots : ℕ) → (blocksIn slots * block ≤ slots) × (blocksIn slots * block ≤ mostCells)
@@ -40,4 +40,4 @@ blocks-room slots =
 pub blocks-full : (slots blocks : ℕ) → blocksIn slots < blocks → (slots < blocks * block) ⊎ (mostCells < blocks * block)
 blocks-full slots blocks h =
     test (ltb slots mostCells) (λ t. let l = ltb-lt slots mostCells t in let x : slots / block < blocks = (rw t at h) in inl (omega (arith, x)))
-    (λ t. let x : 256 < blocks = (rw t at h) in inr (omega (arith, x)))
+    (λ t. let x : mostCells / block < blocks = (rw t at h) in inr (omega (arith, x)))

@@ -1,5 +1,5 @@
 -- What each phase hands to the next.
-use mathlib.Core.Path.{_≡_, refl, sym, ap, _∙_, subst}
+use mathlib.Core.Path.{_≡_, refl, ap, _∙_, subst}
 use mathlib.Core.List.{List, [], _++_}
 use mathlib.Core.Logic.{inl, inr}
 use Prim.Native.Nat.{ℕ, zero, suc, _+_, _*_, _-_, _≤_, _<_}
@@ -10,7 +10,7 @@ use Rattle.paper.specs.Patterns.{Entry, Kind}
 use Rattle.paper.specs.Automaton.{machine, isState, link}
 use Rattle.paper.proofs.Links.{ruled}
 use Rattle.paper.proofs.Machines.{lawful}
-use Rattle.list.specs.Limits.{alphabet, block, mostBytes, mostCells}
+use Rattle.list.specs.Limits.{alphabet, block, mostBytes, mostCells, windowBlocks}
 use Rattle.list.specs.Kinds.{kindOf}
 use Rattle.list.specs.Claims.{Bytes, Sound}
 use Rattle.plan.proofs.Groups.{grouping}
@@ -91,7 +91,7 @@ module _ {kind : Kind} {es : List Entry} {values : List ℕ} {lot : Lot} {states
         states-are = T .made .states-are;
         notes-room = omega (arith, T .note-room);
         laid = laid-still (λ k. P .kept k 5 (omega arith) (λ z. omega arith)) (F .laid);
-        full = groups-full alphabet mostBytes bytes firstBlock (window-reaches 16 (omega arith)) (isState es) (machine-bounded alphabet mostBytes es (T .within));
+        full = groups-full alphabet mostBytes bytes firstBlock (window-reaches windowBlocks (omega arith)) (isState es) (machine-bounded alphabet mostBytes es (T .within));
         blocks-are = F .blocks-are;
         spots-room = F .spots-room;
         few = F .few;

@@ -1,6 +1,5 @@
 -- The phases on blank tables: what is asked of each, and what it leaves.
 use mathlib.Core.Path.{_≡_}
-use mathlib.Core.Bool.{Bool}
 use mathlib.Core.List.{List, _++_}
 use mathlib.Core.Logic.{_⊎_}
 use Prim.Native.Nat.{ℕ, _*_, _-_, _/_, _≤_, _<_}
@@ -12,11 +11,9 @@ use Rattle.paper.specs.Patterns.{Entry, Kind}
 use Rattle.list.specs.Limits.{block, mostCells}
 use Rattle.list.specs.Kinds.{kindOf}
 use Rattle.list.specs.Claims.{Sound}
-use Rattle.plan.specs.Names.{names}
-use Rattle.trie.specs.Stands.{Stands}
-use Rattle.groups.specs.Ordered.{Groupable, groupsOf}
+use Rattle.groups.specs.Ordered.{Groupable}
 use Rattle.outputs.specs.Placed.{Tabled}
-use Rattle.placement.specs.Laid.{Laid, laidOut, LaidOut}
+use Rattle.placement.specs.Laid.{Laid}
 use Rattle.placement.specs.declared.Blocks.{Blocks}
 use Rattle.placement.specs.declared.Blocks.the-variants.{Now, Full}
 use Rattle.cells.specs.Columns.{Blanks, Written}

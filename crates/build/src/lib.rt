@@ -1,6 +1,7 @@
 // The tables of a pattern list: `build`, with refusals 1 to 8. All tables are lent and may hold anything. Working tables are zero again
 // after a good build; nothing is changed by 1 to 5, and all is zero after 6 to 8.
 use list::Listing;
+use list::limits::BLOCK;
 use table::Counts;
 use table::Depth;
 use wipe::wipe_results;
@@ -23,15 +24,15 @@ pub enum Built {
     BadKind,
     // 2: the counts of ends and values differ, or the ends don't cut the bytes.
     BadEnds,
-    // 3: more than 1,024 patterns are listed.
+    // 3: more than MOST_LISTED patterns are listed.
     TooMany,
     // 4: a pattern is empty; the lowest index of such a one.
     Empty(u32),
-    // 5: a pattern has more than 64 bytes; the lowest index of such a one.
+    // 5: a pattern has more than MOST_BYTES bytes; the lowest index of such a one.
     TooLong(u32),
     // 6: the states, root and dead counted, exceed the state slots.
     FewStates,
-    // 7: the cells exceed the cell slots, or 65,536.
+    // 7: the cells exceed the cell slots, or MOST_CELLS.
     FewCells,
     // 8: the accepted patterns exceed the output slots.
     FewOutputs,
@@ -103,7 +104,7 @@ fn make(
             kind: kind,
             accepted: accepted,
             states: states - 1,
-            cells: blocks * 256,
+            cells: blocks * BLOCK,
         }),
         Progress::Refused(number) => {
             wipe_results(base, link, output, check, depth, outs);

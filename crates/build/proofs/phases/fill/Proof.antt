@@ -1,6 +1,4 @@
 -- `fill` stores the outputs, and writes the cells with the places that they got.
-use mathlib.Core.Path.{_≡_, refl, _∙_}
-use native.Mathlib.Omega.{arith}
 use Rattle.whole.specs.Whole.{layoutOf}
 use Rattle.build.proofs.Phasing.{writable, filled}
 use borrow.Author.Needs.{needs}
