@@ -11,7 +11,8 @@ use Rattle.list.proofs.Slots.{smaller-left, smaller-right}
 use Rattle.table.specs.Slots.{columnSlots}
 use Rattle.table.specs.Claims.{Under}
 use Rattle.table.proofs.Columns.{under}
-use Rattle.build.specs.Outcome.{cellSlots, blocksIn}
+use Rattle.build.specs.Lot.{cellSlots}
+use Rattle.build.specs.Phases.{blocksIn}
 
 -- a number of cells lies within the chart and within the columns
 pub record Lying (n spots base link output check depth : ℕ) : Type 0 where
@@ -28,7 +29,7 @@ lying n spots base link output check depth h =
 pub blocks-few : (slots : ℕ) → slots < mostCells → slots / block ≡ blocksIn slots
 blocks-few slots h = rw (lt-ltb slots mostCells h)
 
-pub blocks-many : (slots : ℕ) → mostCells ≤ slots → 256 ≡ blocksIn slots
+pub blocks-many : (slots : ℕ) → mostCells ≤ slots → mostCells / block ≡ blocksIn slots
 blocks-many slots h = rw (le-ltb slots mostCells h)
 
 pub blocks-room : (slots : ℕ) → (blocksIn slots * block ≤ slots) × (blocksIn slots * block ≤ mostCells)
@@ -40,4 +41,4 @@ blocks-room slots =
 pub blocks-full : (slots blocks : ℕ) → blocksIn slots < blocks → (slots < blocks * block) ⊎ (mostCells < blocks * block)
 blocks-full slots blocks h =
     test (ltb slots mostCells) (λ t. let l = ltb-lt slots mostCells t in let x : slots / block < blocks = (rw t at h) in inl (omega (arith, x)))
-    (λ t. let x : 256 < blocks = (rw t at h) in inr (omega (arith, x)))
+    (λ t. let x : mostCells / block < blocks = (rw t at h) in inr (omega (arith, x)))

@@ -11,6 +11,7 @@ use Rattle.list.specs.Listed.{patternsOf}
 use Rattle.list.specs.Claims.{Bytes}
 use Rattle.table.specs.Agrees.{Tables}
 use Rattle.table.specs.declared.Counts.{Counts}
+use Rattle.build.specs.Lot.{Lot}
 use Rattle.build.specs.Promise.{Promise}
 use Rattle.build.specs.declared.Built.the-variants.{Made}
 use Rattle.search.specs.declared.Search.{Search}
@@ -19,28 +20,12 @@ use Rattle.meaning.specs.Demands.{kindNumber, answersOver, StandardDemands, Lef
 
 -- ---- a build, and the searches after it
 
--- what is lent to a build to write: four working tables, the columns of the cells, and the outputs
-pub record Lot : Type 0 where
-  pub trie : List (List ℕ)
-  pub owns : List (List ℕ)
-  pub notes : List (List ℕ)
-  pub spots : List (List ℕ)
-  pub base : List ℕ
-  pub link : List ℕ
-  pub output : List ℕ
-  pub check : List ℕ
-  pub depth : List ℕ
-  pub outs : List (List ℕ)
-
 -- a good build of a list: any tables at entry, what they hold at exit, and the counts that were answered, as `build` promises them
 pub record GoodBuild (kind : ℕ) (bytes ends values : List ℕ) : Type 0 where
   pub entry : Lot
   pub exit : Lot
   pub counts : Counts
-  pub promised : Promise kind bytes ends values
-      (entry .trie) (entry .owns) (entry .notes) (entry .spots) (entry .base) (entry .link) (entry .output) (entry .check) (entry .depth) (entry .outs)
-      (exit .trie) (exit .owns) (exit .notes) (exit .spots) (exit .base) (exit .link) (exit .output) (exit .check) (exit .depth) (exit .outs)
-      (Made counts)
+  pub promised : Promise kind bytes ends values entry exit (Made counts)
 
 -- the tables that it leaves, as they are lent to a search
 abbrev pub tablesLeft : {kind : ℕ} {bytes ends values : List ℕ} → GoodBuild kind bytes ends values → Tables
