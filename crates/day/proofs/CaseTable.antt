@@ -43,6 +43,7 @@ case-table =
       p7 = record { built = refl; says = refl; moved = refl };
       p8 = record { built = refl; says = refl; moved = refl };
       p8-longest = record { built = refl; says = refl; moved = refl };
+      p8-first = record { built = refl; says = refl; moved = refl };
       p9 = record { built = refl; says = refl; moved = refl };
       edge-bytes = refl;
       edge-listed = refl;

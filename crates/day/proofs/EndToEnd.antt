@@ -47,7 +47,7 @@ module _ {kind : ℕ} {bytes ends values : List ℕ} (b : GoodBuild kind bytes e
   unfolding kindIn
   kind-is = ap kindIn (sym was-made ∙ answer-claims kind bytes ends values slots .good .1 cause)
 
-  agrees : Bytes bytes → Agrees (tablesLeft b) (kindOf kind) (acceptedOf kind bytes ends) values
+  pub agrees : Bytes bytes → Agrees (tablesLeft b) (kindOf kind) (acceptedOf kind bytes ends) values
   agrees B = build-claims kind bytes ends values (b .entry) .agrees (b .exit) (b .counts) B (b .promised)
 
 -- the listed patterns have rising rows and none is empty

@@ -111,6 +111,8 @@ pub record CaseTable : Type 0 where
   -- P8 ab twice
   pub p8 : Case overlapping (under 0 twins (5 ∷ 7 ∷ [])) (bytes "ab") 2 3 (at 0 2 5 ∷ at 0 2 7 ∷ []) 2
   pub p8-longest : Case leftmost (under 1 twins (5 ∷ 7 ∷ [])) (bytes "ab") 2 3 (at 0 2 5 ∷ []) 0
+  -- the same under LeftmostFirst: an equal pattern is not dropped
+  pub p8-first : Case leftmost (under 2 twins (5 ∷ 7 ∷ [])) (bytes "ab") 2 3 (at 0 2 5 ∷ []) 0
   -- P9 no patterns, no text
   pub p9 : Case overlapping (under 0 [] []) [] 0 1 [] 0
   -- the edges that are refused: 65 bytes, 1,025 listed, 255 cells lent; the program `edges` runs them, and those that are accepted

@@ -1,4 +1,5 @@
 pub mod EndToEnd
+pub mod BuiltCells
 pub mod CaseTable
 pub mod OneAnswer
 pub mod Sheets

@@ -48,6 +48,7 @@ case-lists =
       p7-first = refl;
       p8 = refl;
       p8-longest = refl;
+      p8-accepted = refl;
       p9 = refl;
       p9-moves = refl;
     }

@@ -63,6 +63,8 @@ abbrev pub starts : (List ℕ → Bool) → List ℕ → Bool
 starts stops w = begins stops [] w
 
 -- a stopping string occurs in w and starts before the longest suffix that is a state
+-- For the list abcd, b, cx of a leftmost kind, b stops. Of the string bc the longest suffix that is a state is c, and b starts before it: true, so abc
+-- links to dead and not to c. Of the string b it is b itself: false, so ab links to b.
 unfoldable pub before : (List ℕ → Bool) → (List ℕ → Bool) → List ℕ → Bool
 before S stops [] = false
 before S stops (x ∷ xs) = pick (S (x ∷ xs)) false (starts stops (x ∷ xs) || before S stops xs)

@@ -104,5 +104,6 @@ pub record CaseLists : Type 0 where
   pub p7-first : withPayloads (valueOf values3) (leftmostBy first (accepted (leftmost first) long-first) (bytes "T100")) ≡ at 0 4 0 ∷ []
   pub p8 : withPayloads (valueOf (5 ∷ 7 ∷ [])) (overlapping (rows twins) (bytes "ab")) ≡ at 0 2 5 ∷ at 0 2 7 ∷ []
   pub p8-longest : withPayloads (valueOf (5 ∷ 7 ∷ [])) (leftmostBy longest (accepted (leftmost longest) twins) (bytes "ab")) ≡ at 0 2 5 ∷ []
+  pub p8-accepted : length (accepted (leftmost first) twins) ≡ 2
   pub p9 : overlapping (rows []) (bytes "") ≡ []
   pub p9-moves : movesOver [] (bytes "") ≡ 0
