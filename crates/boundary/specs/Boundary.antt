@@ -9,6 +9,7 @@ use Rattle.search.specs.declared.Search.{Search}
 use Rattle.search.specs.Values.{Which, cell, valueOf, lent}
 use Rattle.sheet.specs.Sheet.{Stop, full, ended, refused, Load, sheetOf, written}
 use Rattle.build.specs.declared.Built.{Built}
+use Rattle.build.specs.Lot.{Lot}
 use Rattle.build.specs.Outcome as build
 use Rattle.build.specs.Outcome.{Outcome, made}
 use Rattle.build.specs.Promise.{Promise}
@@ -26,12 +27,9 @@ beside (made counts) = counts .kind ∷ counts .accepted ∷ counts .states ∷ 
 beside (build.refused t) = t .index ∷ 0 ∷ 0 ∷ 0 ∷ []
 
 -- what is promised of a build: the number and the four beside it are those of an answer that `build` promises, with every table as `build` leaves it
-pub record BuildPromise (kind : ℕ) (bytes ends values : List ℕ)
-    (trie₀ owns₀ notes₀ spots₀ : List (List ℕ)) (base₀ link₀ output₀ check₀ depth₀ : List ℕ) (outs₀ : List (List ℕ))
-    (trie owns notes spots : List (List ℕ)) (base link output check depth : List ℕ) (outs : List (List ℕ)) (counts : List ℕ) (r : ℕ) : Type 0 where
+pub record BuildPromise (kind : ℕ) (bytes ends values : List ℕ) (before after : Lot) (counts : List ℕ) (r : ℕ) : Type 0 where
   pub built : Built
-  pub promised : Promise kind bytes ends values trie₀ owns₀ notes₀ spots₀ base₀ link₀ output₀ check₀ depth₀ outs₀
-      trie owns notes spots base link output check depth outs built
+  pub promised : Promise kind bytes ends values before after built
   pub numbered : r ≡ numberOf (build.answer built)
   pub beside-is : counts ≡ beside (build.answer built)
 

@@ -28,11 +28,11 @@ use Rattle.whole.specs.Whole.{stateCount, cellCount, cellsOf}
 use Rattle.whole.specs.Whole as whole
 use Rattle.whole.proofs.Agreement as agreement
 use Rattle.whole.specs.Refusing.{Lent, tableRefusals, allRefusals, Suffices}
+use Rattle.build.specs.Lot.{Lot, slotsOf, resultsOf}
 use Rattle.build.specs.Outcome.{Outcome, refused, made, refusal, answer, countsOf, onRefusal, outcomeOf}
-use Rattle.build.specs.Phases.{slotsOf}
 use Rattle.wipe.specs.Wiped.{blank, blankRows}
 use Rattle.build.specs.Promise.{left, outputRows, Promise}
-use Rattle.build.specs.Claims.{AnswerClaims, Same, BuildClaims}
+use Rattle.build.specs.Claims.{AnswerClaims, BuildClaims}
 use Rattle.table.specs.declared.Counts.{Counts}
 use Rattle.build.specs.declared.Built.{Built}
 use Rattle.build.specs.declared.Built.the-variants.{Made, BadKind, BadEnds, TooMany, Empty, TooLong, FewStates, FewCells, FewOutputs}
@@ -266,15 +266,14 @@ same-left was zero good e f g = f ∙ ap (λ o. left o was zero good) e ∙ sym 
 good-left : {A : Type 0} {o : Outcome} {counts : Counts} (was zero good : A) {x : A} → made counts ≡ o → x ≡ left o was zero good → x ≡ good
 good-left was zero good e f = f ∙ ap (λ o. left o was zero good) (sym e)
 
-module _ (kind : ℕ) (bytes ends values : List ℕ) (trie₀ owns₀ notes₀ spots₀ : List (List ℕ)) (base₀ link₀ output₀ check₀ depth₀ : List ℕ) (outs₀ : List (List ℕ)) where
+module _ (kind : ℕ) (bytes ends values : List ℕ) (before : Lot) where
   -- the accepted patterns
   abbrev accepted : List Entry
   accepted = acceptedOf kind bytes ends
 
-  module _ {trie owns notes spots : List (List ℕ)} {base link output check depth : List ℕ} {outs : List (List ℕ)} {counts : Counts} (B : Bytes bytes)
-      (P : Promise kind bytes ends values trie₀ owns₀ notes₀ spots₀ base₀ link₀ output₀ check₀ depth₀ outs₀ trie owns notes spots base link output check depth outs (Made counts)) where
+  module _ {after : Lot} {counts : Counts} (B : Bytes bytes) (P : Promise kind bytes ends values before after (Made counts)) where
     lent : Lent
-    lent = slotsOf (length trie₀) (length owns₀) (length notes₀) (length spots₀) (length base₀) (length link₀) (length output₀) (length check₀) (length depth₀) (length outs₀)
+    lent = slotsOf before
 
     outcome-here : outcomeOf kind bytes ends values lent ≡ made counts
     unfolding lent
@@ -289,56 +288,55 @@ module _ (kind : ℕ) (bytes ends values : List ℕ) (trie₀ owns₀ notes₀ s
 
     -- the slots of each result table
     results : whole.Slots
-    results = record { base = length base₀; link = length link₀; output = length output₀; check = length check₀; depth = length depth₀; outs = length outs₀ }
+    results = record { base = length (before .base); link = length (before .link); output = length (before .output); check = length (before .check); depth = length (before .depth); outs = length (before .outs) }
 
     enough : whole.Enough (cellCount accepted) (length accepted) results
     unfolding lent results
     enough =
         let F = cause .1 in
-        let U = lying (cellCount accepted) (length spots₀) (length base₀) (length link₀) (length output₀) (length check₀) (length depth₀) (F .cells) in
+        let U = lying (cellCount accepted) (length (before .spots)) (length (before .base)) (length (before .link)) (length (before .output)) (length (before .check)) (length (before .depth)) (F .cells) in
         record {
           base-room = U .columns .in-base;
           link-room = U .columns .in-link;
           output-room = U .columns .in-output;
           check-room = U .columns .in-check;
           depth-room = U .columns .in-depth;
-          outs-room = omega (arith, F .outputs, smaller-right (length owns₀) (length outs₀));
+          outs-room = omega (arith, F .outputs, smaller-right (length (before .owns)) (length (before .outs)));
         }
 
-    good-agrees : Agrees (record { base = base; link = link; output = output; check = check; depth = depth; outs = outs; cells = counts .cells; accepted = counts .accepted })
-        (kindOf kind) accepted values
+    good-agrees : Agrees (resultsOf after counts) (kindOf kind) accepted values
     unfolding results
     good-agrees =
         rw (
-          good-left base₀ (blank base₀) (column (λ x. x .base) (cellsOf (kindOf kind) accepted) (length base₀)) (P .answered) (P .base-left),
-          good-left link₀ (blank link₀) (column (λ x. x .link) (cellsOf (kindOf kind) accepted) (length link₀)) (P .answered) (P .link-left),
-          good-left output₀ (blank output₀) (column (λ x. x .output) (cellsOf (kindOf kind) accepted) (length output₀)) (P .answered) (P .output-left),
-          good-left check₀ (blank check₀) (column (λ x. x .check) (cellsOf (kindOf kind) accepted) (length check₀)) (P .answered) (P .check-left),
-          good-left depth₀ (blank depth₀) (column (λ x. x .depth) (cellsOf (kindOf kind) accepted) (length depth₀)) (P .answered) (P .depth-left),
-          good-left outs₀ (blankRows 3 outs₀) (outputRows (kindOf kind) accepted values (length outs₀)) (P .answered) (P .outs-left),
+          good-left (before .base) (blank (before .base)) (column (λ x. x .base) (cellsOf (kindOf kind) accepted) (length (before .base))) (P .answered) (P .base-left),
+          good-left (before .link) (blank (before .link)) (column (λ x. x .link) (cellsOf (kindOf kind) accepted) (length (before .link))) (P .answered) (P .link-left),
+          good-left (before .output) (blank (before .output)) (column (λ x. x .output) (cellsOf (kindOf kind) accepted) (length (before .output))) (P .answered) (P .output-left),
+          good-left (before .check) (blank (before .check)) (column (λ x. x .check) (cellsOf (kindOf kind) accepted) (length (before .check))) (P .answered) (P .check-left),
+          good-left (before .depth) (blank (before .depth)) (column (λ x. x .depth) (cellsOf (kindOf kind) accepted) (length (before .depth))) (P .answered) (P .depth-left),
+          good-left (before .outs) (blankRows 3 (before .outs)) (outputRows (kindOf kind) accepted values (length (before .outs))) (P .answered) (P .outs-left),
           ap (λ (x : Counts). x .cells) counts-are,
           ap (λ (x : Counts). x .accepted) counts-are,
         )
         (agreement.agrees (kindOf kind) accepted values results (fit (cause .0)) (within (cause .0) B) enough)
 
-  pub build-claims : BuildClaims kind bytes ends values trie₀ owns₀ notes₀ spots₀ base₀ link₀ output₀ check₀ depth₀ outs₀
+  pub build-claims : BuildClaims kind bytes ends values before
   build-claims =
       record {
-        one-answer = λ trie owns notes spots base link output check depth outs r trie' owns' notes' spots' base' link' output' check' depth' outs' r' P Q.
+        one-answer = λ after after' r r' P Q.
             sym (back-answer r) ∙ ap back (P .answered ∙ P .outcome-is ∙ sym (Q .outcome-is) ∙ sym (Q .answered)) ∙ back-answer r';
-        one-lot = λ trie owns notes spots base link output check depth outs r trie' owns' notes' spots' base' link' output' check' depth' outs' r' P Q.
+        one-lot = λ after after' r r' P Q.
             let e = P .outcome-is ∙ sym (Q .outcome-is) in
-            record {
-              same-trie = same-left trie₀ (blankRows 5 trie₀) (blankRows 5 trie₀) e (P .trie-left) (Q .trie-left);
-              same-owns = same-left owns₀ (blankRows 2 owns₀) (blankRows 2 owns₀) e (P .owns-left) (Q .owns-left);
-              same-notes = same-left notes₀ (blankRows 6 notes₀) (blankRows 6 notes₀) e (P .notes-left) (Q .notes-left);
-              same-spots = same-left spots₀ (blankRows 2 spots₀) (blankRows 2 spots₀) e (P .spots-left) (Q .spots-left);
-              same-base = same-left base₀ (blank base₀) (column (λ x. x .base) (cellsOf (kindOf kind) accepted) (length base₀)) e (P .base-left) (Q .base-left);
-              same-link = same-left link₀ (blank link₀) (column (λ x. x .link) (cellsOf (kindOf kind) accepted) (length link₀)) e (P .link-left) (Q .link-left);
-              same-output = same-left output₀ (blank output₀) (column (λ x. x .output) (cellsOf (kindOf kind) accepted) (length output₀)) e (P .output-left) (Q .output-left);
-              same-check = same-left check₀ (blank check₀) (column (λ x. x .check) (cellsOf (kindOf kind) accepted) (length check₀)) e (P .check-left) (Q .check-left);
-              same-depth = same-left depth₀ (blank depth₀) (column (λ x. x .depth) (cellsOf (kindOf kind) accepted) (length depth₀)) e (P .depth-left) (Q .depth-left);
-              same-outs = same-left outs₀ (blankRows 3 outs₀) (outputRows (kindOf kind) accepted values (length outs₀)) e (P .outs-left) (Q .outs-left);
+            λ i. record {
+              trie = (same-left (before .trie) (blankRows 5 (before .trie)) (blankRows 5 (before .trie)) e (P .trie-left) (Q .trie-left)) i;
+              owns = (same-left (before .owns) (blankRows 2 (before .owns)) (blankRows 2 (before .owns)) e (P .owns-left) (Q .owns-left)) i;
+              notes = (same-left (before .notes) (blankRows 6 (before .notes)) (blankRows 6 (before .notes)) e (P .notes-left) (Q .notes-left)) i;
+              spots = (same-left (before .spots) (blankRows 2 (before .spots)) (blankRows 2 (before .spots)) e (P .spots-left) (Q .spots-left)) i;
+              base = (same-left (before .base) (blank (before .base)) (column (λ x. x .base) (cellsOf (kindOf kind) accepted) (length (before .base))) e (P .base-left) (Q .base-left)) i;
+              link = (same-left (before .link) (blank (before .link)) (column (λ x. x .link) (cellsOf (kindOf kind) accepted) (length (before .link))) e (P .link-left) (Q .link-left)) i;
+              output = (same-left (before .output) (blank (before .output)) (column (λ x. x .output) (cellsOf (kindOf kind) accepted) (length (before .output))) e (P .output-left) (Q .output-left)) i;
+              check = (same-left (before .check) (blank (before .check)) (column (λ x. x .check) (cellsOf (kindOf kind) accepted) (length (before .check))) e (P .check-left) (Q .check-left)) i;
+              depth = (same-left (before .depth) (blank (before .depth)) (column (λ x. x .depth) (cellsOf (kindOf kind) accepted) (length (before .depth))) e (P .depth-left) (Q .depth-left)) i;
+              outs = (same-left (before .outs) (blankRows 3 (before .outs)) (outputRows (kindOf kind) accepted values (length (before .outs))) e (P .outs-left) (Q .outs-left)) i;
             };
-        agrees = λ trie owns notes spots base link output check depth outs counts B P. good-agrees B P;
+        agrees = λ after counts B P. good-agrees B P;
       }

@@ -9,8 +9,10 @@ use Rattle.paper.proofs.Tests.{test, lt-ltb, ltb-lt, ltb-le, le-ltb}
 use Rattle.list.specs.Limits.{block, mostCells}
 use Rattle.list.proofs.Slots.{smaller-left, smaller-right}
 use Rattle.table.specs.Slots.{columnSlots}
-use Rattle.table.proofs.Columns.{Under, under}
-use Rattle.build.specs.Outcome.{cellSlots, blocksIn}
+use Rattle.table.specs.Claims.{Under}
+use Rattle.table.proofs.Columns.{under}
+use Rattle.build.specs.Lot.{cellSlots}
+use Rattle.build.specs.Phases.{blocksIn}
 
 -- a number of cells lies within the chart and within the columns
 pub record Lying (n spots base link output check depth : ℕ) : Type 0 where
@@ -27,7 +29,7 @@ lying n spots base link output check depth h =
 pub blocks-few : (slots : ℕ) → slots < mostCells → slots / block ≡ blocksIn slots
 blocks-few slots h = rw (lt-ltb slots mostCells h)
 
-pub blocks-many : (slots : ℕ) → mostCells ≤ slots → 256 ≡ blocksIn slots
+pub blocks-many : (slots : ℕ) → mostCells ≤ slots → mostCells / block ≡ blocksIn slots
 blocks-many slots h = rw (le-ltb slots mostCells h)
 
 pub blocks-room : (slots : ℕ) → (blocksIn slots * block ≤ slots) × (blocksIn slots * block ≤ mostCells)
@@ -39,4 +41,4 @@ blocks-room slots =
 pub blocks-full : (slots blocks : ℕ) → blocksIn slots < blocks → (slots < blocks * block) ⊎ (mostCells < blocks * block)
 blocks-full slots blocks h =
     test (ltb slots mostCells) (λ t. let l = ltb-lt slots mostCells t in let x : slots / block < blocks = (rw t at h) in inl (omega (arith, x)))
-    (λ t. let x : 256 < blocks = (rw t at h) in inr (omega (arith, x)))
+    (λ t. let x : mostCells / block < blocks = (rw t at h) in inr (omega (arith, x)))

@@ -1,5 +1,5 @@
 -- What each phase hands to the next.
-use mathlib.Core.Path.{_≡_, refl, sym, ap, _∙_, subst}
+use mathlib.Core.Path.{_≡_, refl, ap, _∙_, subst}
 use mathlib.Core.List.{List, [], _++_}
 use mathlib.Core.Logic.{inl, inr}
 use Prim.Native.Nat.{ℕ, zero, suc, _+_, _*_, _-_, _≤_, _<_}
@@ -10,7 +10,7 @@ use Rattle.paper.specs.Patterns.{Entry, Kind}
 use Rattle.paper.specs.Automaton.{machine, isState, link}
 use Rattle.paper.proofs.Links.{ruled}
 use Rattle.paper.proofs.Machines.{lawful}
-use Rattle.list.specs.Limits.{alphabet, block, mostBytes, mostCells}
+use Rattle.list.specs.Limits.{alphabet, block, mostBytes, mostCells, windowBlocks}
 use Rattle.list.specs.Kinds.{kindOf}
 use Rattle.list.specs.Claims.{Bytes, Sound}
 use Rattle.plan.proofs.Groups.{grouping}
@@ -33,9 +33,9 @@ use Rattle.placement.specs.declared.Blocks.the-variants.{Now, Full}
 use Rattle.cells.specs.Columns.{Writable, Written}
 use Rattle.whole.specs.Whole.{stateCount, layoutOf, cellCount, cellsOf, outputsOf}
 use Rattle.whole.specs.Refusing.{Lent, Suffices}
-use Rattle.build.specs.Outcome.{blocksIn}
+use Rattle.build.specs.Lot.{Lot, lotOf}
 use Rattle.wipe.specs.Wiped.{blank, blankRows}
-use Rattle.build.specs.Phases.{Layable, LaidDown, LaidBy, Fillable, Filled, Caused}
+use Rattle.build.specs.Phases.{blocksIn, Layable, LaidDown, LaidBy, Fillable, Filled, Caused}
 use Rattle.build.proofs.Counting.{blocks-room, blocks-full}
 
 -- ---- the layout
@@ -80,11 +80,10 @@ laid-still same L =
       charted = L .charted;
     }
 
-module _ {kind : Kind} {es : List Entry} {trie owns notes₀ notes spots : List (List ℕ)} {values base link' output check depth : List ℕ} {outs₀ outs : List (List ℕ)}
-    {states blocks count : ℕ} (F : Fillable kind es trie owns notes₀ spots values base link' output check depth outs₀ states blocks)
-    (P : Placed kind es values notes₀ notes outs₀ outs count) where
-  pub writable : length notes ≡ length notes₀
-      → Writable es (layoutOf es) (link (machine kind es)) ((allStored kind es) .place) trie notes spots states blocks
+module _ {kind : Kind} {es : List Entry} {values : List ℕ} {lot : Lot} {states blocks : ℕ} (F : Fillable kind es values lot states blocks)
+    {notes outs : List (List ℕ)} {count : ℕ} (P : Placed kind es values (lot .notes) notes (lot .outs) outs count) where
+  pub writable : length notes ≡ length (lot .notes)
+      → Writable es (layoutOf es) (link (machine kind es)) ((allStored kind es) .place) (lot .trie) notes (lot .spots) states blocks
   writable e =
       let T = F .tabled in
       record {
@@ -92,7 +91,7 @@ module _ {kind : Kind} {es : List Entry} {trie owns notes₀ notes spots : List 
         states-are = T .made .states-are;
         notes-room = omega (arith, T .note-room);
         laid = laid-still (λ k. P .kept k 5 (omega arith) (λ z. omega arith)) (F .laid);
-        full = groups-full alphabet mostBytes bytes firstBlock (window-reaches 16 (omega arith)) (isState es) (machine-bounded alphabet mostBytes es (T .within));
+        full = groups-full alphabet mostBytes bytes firstBlock (window-reaches windowBlocks (omega arith)) (isState es) (machine-bounded alphabet mostBytes es (T .within));
         blocks-are = F .blocks-are;
         spots-room = F .spots-room;
         few = F .few;
@@ -106,17 +105,18 @@ module _ {kind : Kind} {es : List Entry} {trie owns notes₀ notes spots : List 
   drop-blank (suc k) zero = let e : zero - suc k ≡ 0 = omega arith in rw e
   drop-blank (suc k) (suc n) = let e : suc n - suc k ≡ n - k = omega arith in rw e (drop-blank k n)
 
-  pub filled : {base' link'' output' check' depth' : List ℕ} {slots : ℕ} {nb nl no nc nd : ℕ} → slots ≡ length outs₀
-      → Written (cellsOf kind es) base' link'' output' check' depth' nb nl no nc nd
-      → Filled kind es values nb nl no nc nd slots base' link'' output' check' depth' outs count
-  filled e W =
+  pub filled : {trie owns notes' spots : List (List ℕ)} {base link' output check depth : List ℕ}
+      → Written (cellsOf kind es) base link' output check depth
+      (length (lot .base)) (length (lot .link)) (length (lot .output)) (length (lot .check)) (length (lot .depth))
+      → Filled kind es values lot (lotOf trie owns notes' spots base link' output check depth outs) count
+  filled W =
       record {
         count-is = P .count-is;
         columns = W;
         rows =
             P .rows
             ∙ ap (λ (l : List (List ℕ)). outputsOf kind es values ++ l)
-            (ap (drop (length es)) (F .blank-outs) ∙ drop-blank (length es) (length outs₀) ∙ ap (λ (n : ℕ). replicate (n - length es) (zeros 3)) (sym e));
+            (ap (drop (length es)) (F .blank-outs) ∙ drop-blank (length es) (length (lot .outs)));
       }
 
 -- ---- the whole
@@ -203,7 +203,7 @@ module _ {kind : ℕ} {bytes ends values : List ℕ} (S : Sound kind bytes ends 
         → slots .cells ≤ length base → slots .cells ≤ length link' → slots .cells ≤ length output → slots .cells ≤ length check → slots .cells ≤ length depth
         → base ≡ blank base → link' ≡ blank link' → output ≡ blank output → check ≡ blank check → depth ≡ blank depth → outs ≡ blankRows 3 outs
         → count ≤ length owns → count ≤ length outs
-        → Fillable (kindOf kind) es trie owns notes' spots values base link' output check depth outs states blocks
+        → Fillable (kindOf kind) es values (lotOf trie owns notes' spots base link' output check depth outs) states blocks
     fillable B ln ls lb ll lo lc ld zb zl zo zc zd zu ow ou =
         let q = cells-fit in
         record {

@@ -12,16 +12,19 @@ use Rattle.paper.specs.Lists.{pick}
 use Rattle.paper.specs.Patterns.{Entry}
 use Rattle.paper.proofs.Tests.{le-leb}
 use Rattle.list.specs.Limits.{alphabet, block}
+use Rattle.list.specs.Kinds.{kindOf}
 use Rattle.list.specs.Refusals.{Told, lowest}
 use Rattle.list.specs.Listed.{refusals}
 use Rattle.list.specs.Claims.{Sound}
 use Rattle.plan.specs.Names.{names, rootAndDead}
 use Rattle.plan.proofs.Names.{from-long}
 use Rattle.nfa.specs.Grown.{acceptedOf}
-use Rattle.whole.specs.Whole.{stateCount, cellCount}
+use Rattle.whole.specs.Whole.{stateCount}
+use Rattle.whole.specs.Refusing.{Lent, Suffices}
+use Rattle.build.specs.Lot.{Lot, lotOf, slotsOf}
 use Rattle.build.specs.Outcome.{TableRefusal, Outcome, refused, made, refusal, answer, countsOf, outcomeOf}
 use Rattle.wipe.specs.Wiped.{blank, blankRows, WorkingZero, ResultsZero}
-use Rattle.build.specs.Phases.{Prepared, AllDone, Caused, slotsOf, PhasesOk}
+use Rattle.build.specs.Phases.{Filled, AllDone, Caused, PhasesOk}
 use Rattle.build.specs.Promise.{Promise}
 use Rattle.build.specs.declared.phases.Progress.{Progress}
 use Rattle.build.specs.declared.phases.Progress.the-variants.{Done, Refused}
@@ -45,16 +48,45 @@ blank-of column other zero e l = e ∙ ap (λ (n : ℕ). replicate n 0) l
 pub rows-of : (m : ℕ) (rows other zero : List (List ℕ)) → zero ≡ blankRows m other → length other ≡ length rows → zero ≡ blankRows m rows
 rows-of m rows other zero e l = e ∙ ap (λ (n : ℕ). replicate n (zeros m)) l
 
+-- ---- lots as long
+
+-- the tables of one lot are as long as those of another
+pub record AsLong (x y : Lot) : Type 0 where
+  pub trie-long : length (x .trie) ≡ length (y .trie)
+  pub owns-long : length (x .owns) ≡ length (y .owns)
+  pub notes-long : length (x .notes) ≡ length (y .notes)
+  pub spots-long : length (x .spots) ≡ length (y .spots)
+  pub base-long : length (x .base) ≡ length (y .base)
+  pub link-long : length (x .link) ≡ length (y .link)
+  pub output-long : length (x .output) ≡ length (y .output)
+  pub check-long : length (x .check) ≡ length (y .check)
+  pub depth-long : length (x .depth) ≡ length (y .depth)
+  pub outs-long : length (x .outs) ≡ length (y .outs)
+
+-- so they have as many slots
+same-slots : (x y : Lot) → AsLong x y → slotsOf x ≡ slotsOf y
+same-slots x y L =
+    rw (
+      L .trie-long,
+      L .owns-long,
+      L .notes-long,
+      L .spots-long,
+      L .base-long,
+      L .link-long,
+      L .output-long,
+      L .check-long,
+      L .depth-long,
+      L .outs-long,
+    )
+
 -- ---- an answer told apart
 
-module _ (kind : ℕ) (bytes ends values : List ℕ) (t o n s b l u k d w : ℕ) (base link output check depth : List ℕ) (outs : List (List ℕ)) (r : Progress)
-    (P : PhasesOk kind bytes ends values t o n s b l u k d w base link output check depth outs r) where
-  pub as-done : (accepted states blocks : ℕ) → r ≡ Done accepted states blocks
-      → AllDone kind bytes ends values (slotsOf t o n s b l u k d w) b l u k d w base link output check depth outs accepted states blocks
-  as-done accepted states blocks e = subst (λ (x : Progress). PhasesOk kind bytes ends values t o n s b l u k d w base link output check depth outs x) e P
+module _ (kind : ℕ) (bytes ends values : List ℕ) (before after : Lot) (r : Progress) (P : PhasesOk kind bytes ends values before after r) where
+  pub as-done : (accepted states blocks : ℕ) → r ≡ Done accepted states blocks → AllDone kind bytes ends values before after accepted states blocks
+  as-done accepted states blocks e = subst (λ (x : Progress). PhasesOk kind bytes ends values before after x) e P
 
-  pub as-refused : (number : ℕ) → r ≡ Refused number → Caused (acceptedOf kind bytes ends) (slotsOf t o n s b l u k d w) number
-  as-refused number e = subst (λ (x : Progress). PhasesOk kind bytes ends values t o n s b l u k d w base link output check depth outs x) e P
+  pub as-refused : (number : ℕ) → r ≡ Refused number → Caused (acceptedOf kind bytes ends) (slotsOf before) number
+  as-refused number e = subst (λ (x : Progress). PhasesOk kind bytes ends values before after x) e P
 
 -- root and dead are always counted
 pub two-states : (es : List Entry) → 2 ≤ stateCount es
@@ -69,34 +101,29 @@ wiped-left n q was zero e = ⊎-elim (λ f. rw f e) (⊎-elim (λ f. rw f e) (λ
 kept-left : {A : Type 0} (n : ℕ) → n ≤ 5 → (was zero : A) → was ≡ pick (leb n 5) was zero
 kept-left n h was zero = rw (le-leb n 5 h)
 
-module _ {kind : ℕ} {bytes ends values : List ℕ} {trie₀ owns₀ notes₀ spots₀ : List (List ℕ)} {base₀ link₀ output₀ check₀ depth₀ : List ℕ} {outs₀ : List (List ℕ)} where
-  -- ---- a good build
+module _ {kind : ℕ} {bytes ends values : List ℕ} where
+  -- the lots as they were lent, as the phases get them and as they leave them; then the working tables are wiped
+  module _ {before blanked done : Lot} {trie owns notes spots : List (List ℕ)} (S : Sound kind bytes ends values) (B : AsLong blanked before) (L : AsLong done before)
+      (W : WorkingZero (done .trie) (done .owns) (done .notes) (done .spots) trie owns notes spots) where
+    -- ---- a good build
 
-  module _ (S : Sound kind bytes ends values)
-      {trie₁ owns₁ notes₁ spots₁ trie owns notes spots : List (List ℕ)} (W : WorkingZero trie₁ owns₁ notes₁ spots₁ trie owns notes spots)
-      (lt : length trie₁ ≡ length trie₀) (lo : length owns₁ ≡ length owns₀) (ln : length notes₁ ≡ length notes₀) (ls : length spots₁ ≡ length spots₀)
-      {t o n s b l u k d w : ℕ} (et : t ≡ length trie₀) (eo : o ≡ length owns₀) (en : n ≡ length notes₀) (es : s ≡ length spots₀) (eb : b ≡ length base₀)
-      (el : l ≡ length link₀) (eu : u ≡ length output₀) (ek : k ≡ length check₀) (ed : d ≡ length depth₀) (ew : w ≡ length outs₀) where
-    pub promise-made : {base link output check depth : List ℕ} {outs : List (List ℕ)} {accepted states blocks : ℕ}
-        → AllDone kind bytes ends values (slotsOf t o n s b l u k d w) b l u k d w base link output check depth outs accepted states blocks
+    pub promise-made : {accepted states blocks : ℕ} → AllDone kind bytes ends values blanked done accepted states blocks
         → (one cells : ℕ) → one ≡ states - 1 → cells ≡ blocks * block
-        → Promise kind bytes ends values trie₀ owns₀ notes₀ spots₀ base₀ link₀ output₀ check₀ depth₀ outs₀ trie owns notes spots base link output check depth outs
+        → Promise kind bytes ends values before
+        (lotOf trie owns notes spots (done .base) (done .link) (done .output) (done .check) (done .depth) (done .outs))
         (Made (record { kind = kind; accepted = accepted; states = one; cells = cells }))
-    promise-made {base} {link} {output} {check} {depth} {outs} {accepted} {states} {blocks} D one cells e₁ e₂ =
-        let E : AllDone kind bytes ends values
-        (slotsOf (length trie₀) (length owns₀) (length notes₀) (length spots₀) (length base₀) (length link₀) (length output₀) (length check₀) (length depth₀) (length outs₀))
-        (length base₀) (length link₀) (length output₀) (length check₀) (length depth₀) (length outs₀) base link output check depth outs accepted states blocks
-        = rw (et, eo, en, es, eb, el, eu, ek, ed, ew) at D in
-        let F = E .filled in
+    promise-made {accepted} {states} {blocks} D one cells e₁ e₂ =
+        let F : Filled (kindOf kind) (acceptedOf kind bytes ends) values before done accepted = as-long (D .filled) in
         record {
           outcome = made (countsOf kind (acceptedOf kind bytes ends));
-          outcome-is = sym (outcome-made kind bytes ends values _ S (E .fits));
+          outcome-is =
+              sym (outcome-made kind bytes ends values _ S (subst (Suffices (acceptedOf kind bytes ends)) (same-slots blanked before B) (D .fits)));
           answered =
-              counted (F .count-is) (e₁ ∙ ap (λ (x : ℕ). x - 1) (E .states-are)) (e₂ ∙ ap (λ (x : ℕ). x * block) (E .blocks-are));
-          trie-left = rows-of 5 trie₀ trie₁ trie (W .trie-zero) lt;
-          owns-left = rows-of 2 owns₀ owns₁ owns (W .owns-zero) lo;
-          notes-left = rows-of 6 notes₀ notes₁ notes (W .notes-zero) ln;
-          spots-left = rows-of 2 spots₀ spots₁ spots (W .spots-zero) ls;
+              counted (F .count-is) (e₁ ∙ ap (λ (x : ℕ). x - 1) (D .states-are)) (e₂ ∙ ap (λ (x : ℕ). x * block) (D .blocks-are));
+          trie-left = rows-of 5 (before .trie) (done .trie) trie (W .trie-zero) (L .trie-long);
+          owns-left = rows-of 2 (before .owns) (done .owns) owns (W .owns-zero) (L .owns-long);
+          notes-left = rows-of 6 (before .notes) (done .notes) notes (W .notes-zero) (L .notes-long);
+          spots-left = rows-of 2 (before .spots) (done .spots) spots (W .spots-zero) (L .spots-long);
           base-left = F .columns .bases;
           link-left = F .columns .links;
           output-left = F .columns .outputs;
@@ -105,56 +132,62 @@ module _ {kind : ℕ} {bytes ends values : List ℕ} {trie₀ owns₀ notes₀ s
           outs-left = F .rows;
         }
       where
+        as-long : Filled (kindOf kind) (acceptedOf kind bytes ends) values blanked done accepted → Filled (kindOf kind) (acceptedOf kind bytes ends) values before done accepted
+        as-long F =
+            record {
+              count-is = F .count-is;
+              columns = rw (B .base-long, B .link-long, B .output-long, B .check-long, B .depth-long) at (F .columns);
+              rows = rw (B .outs-long) at (F .rows);
+            }
+
         counted : {a x c a' x' c' : ℕ} → a ≡ a' → x ≡ x' → c ≡ c'
             → made (record { kind = kind; accepted = a; states = x; cells = c }) ≡ made (record { kind = kind; accepted = a'; states = x'; cells = c' })
         counted f g h = rw (f, g, h)
 
-    -- ---- a refusal for the tables
+    -- ---- a refusal for the tables: the results are wiped too
 
-    pub promise-few : {base₁ link₁ output₁ check₁ depth₁ : List ℕ} {outs₁ : List (List ℕ)} {base link output check depth : List ℕ} {outs : List (List ℕ)}
-        → ResultsZero base₁ link₁ output₁ check₁ depth₁ outs₁ base link output check depth outs
-        → length base₁ ≡ length base₀ → length link₁ ≡ length link₀ → length output₁ ≡ length output₀ → length check₁ ≡ length check₀
-        → length depth₁ ≡ length depth₀ → length outs₁ ≡ length outs₀
-        → (number : ℕ) → Caused (acceptedOf kind bytes ends) (slotsOf t o n s b l u k d w) number → (r : Built) → answer r ≡ refusal number
-        → Promise kind bytes ends values trie₀ owns₀ notes₀ spots₀ base₀ link₀ output₀ check₀ depth₀ outs₀ trie owns notes spots base link output check depth outs r
-    promise-few {base₁} {link₁} {output₁} {check₁} {depth₁} {outs₁} {base} {link} {output} {check} {depth} {outs} R lb ll lu lk ld lw number C r a =
-        let E : Caused (acceptedOf kind bytes ends)
-        (slotsOf (length trie₀) (length owns₀) (length notes₀) (length spots₀) (length base₀) (length link₀) (length output₀) (length check₀) (length depth₀) (length outs₀)) number
-        = rw (et, eo, en, es, eb, el, eu, ek, ed, ew) at C in
+    pub promise-few : {base link output check depth : List ℕ} {outs : List (List ℕ)}
+        → ResultsZero (done .base) (done .link) (done .output) (done .check) (done .depth) (done .outs) base link output check depth outs
+        → (p : Progress) → PhasesOk kind bytes ends values blanked done p → (number : ℕ) → p ≡ Refused number → (r : Built) → answer r ≡ refusal number
+        → Promise kind bytes ends values before (lotOf trie owns notes spots base link output check depth outs) r
+    promise-few {base} {link} {output} {check} {depth} {outs} R p K number e r a =
+        let C = as-refused kind bytes ends values blanked done p K number e in
         record {
           outcome = refusal number;
-          outcome-is = sym (outcome-caused kind bytes ends values _ S number E);
+          outcome-is =
+              sym
+              (outcome-caused kind bytes ends values _ S number
+              (subst (λ (x : Lent). Caused (acceptedOf kind bytes ends) x number) (same-slots blanked before B) C));
           answered = a;
-          trie-left = wiped-left number (C .known) trie₀ _ (rows-of 5 trie₀ trie₁ trie (W .trie-zero) lt);
-          owns-left = wiped-left number (C .known) owns₀ _ (rows-of 2 owns₀ owns₁ owns (W .owns-zero) lo);
-          notes-left = wiped-left number (C .known) notes₀ _ (rows-of 6 notes₀ notes₁ notes (W .notes-zero) ln);
-          spots-left = wiped-left number (C .known) spots₀ _ (rows-of 2 spots₀ spots₁ spots (W .spots-zero) ls);
-          base-left = wiped-left number (C .known) base₀ _ (blank-of base₀ base₁ base (R .base-zero) lb);
-          link-left = wiped-left number (C .known) link₀ _ (blank-of link₀ link₁ link (R .link-zero) ll);
-          output-left = wiped-left number (C .known) output₀ _ (blank-of output₀ output₁ output (R .output-zero) lu);
-          check-left = wiped-left number (C .known) check₀ _ (blank-of check₀ check₁ check (R .check-zero) lk);
-          depth-left = wiped-left number (C .known) depth₀ _ (blank-of depth₀ depth₁ depth (R .depth-zero) ld);
-          outs-left = wiped-left number (C .known) outs₀ _ (rows-of 3 outs₀ outs₁ outs (R .outs-zero) lw);
+          trie-left = wiped-left number (C .known) (before .trie) _ (rows-of 5 (before .trie) (done .trie) trie (W .trie-zero) (L .trie-long));
+          owns-left = wiped-left number (C .known) (before .owns) _ (rows-of 2 (before .owns) (done .owns) owns (W .owns-zero) (L .owns-long));
+          notes-left = wiped-left number (C .known) (before .notes) _ (rows-of 6 (before .notes) (done .notes) notes (W .notes-zero) (L .notes-long));
+          spots-left = wiped-left number (C .known) (before .spots) _ (rows-of 2 (before .spots) (done .spots) spots (W .spots-zero) (L .spots-long));
+          base-left = wiped-left number (C .known) (before .base) _ (blank-of (before .base) (done .base) base (R .base-zero) (L .base-long));
+          link-left = wiped-left number (C .known) (before .link) _ (blank-of (before .link) (done .link) link (R .link-zero) (L .link-long));
+          output-left = wiped-left number (C .known) (before .output) _ (blank-of (before .output) (done .output) output (R .output-zero) (L .output-long));
+          check-left = wiped-left number (C .known) (before .check) _ (blank-of (before .check) (done .check) check (R .check-zero) (L .check-long));
+          depth-left = wiped-left number (C .known) (before .depth) _ (blank-of (before .depth) (done .depth) depth (R .depth-zero) (L .depth-long));
+          outs-left = wiped-left number (C .known) (before .outs) _ (rows-of 3 (before .outs) (done .outs) outs (R .outs-zero) (L .outs-long));
         }
 
   -- ---- a refusal for the list: nothing is changed
 
-  pub promise-listed : (t : Told) → t .number ≤ 5 → lowest (refusals kind bytes ends values) ≡ some t → (r : Built) → answer r ≡ refused t
-      → Promise kind bytes ends values trie₀ owns₀ notes₀ spots₀ base₀ link₀ output₀ check₀ depth₀ outs₀
-      trie₀ owns₀ notes₀ spots₀ base₀ link₀ output₀ check₀ depth₀ outs₀ r
-  promise-listed t h e r a =
+  pub promise-listed : {lot : Lot} (t : Told) → t .number ≤ 5 → lowest (refusals kind bytes ends values) ≡ some t → (r : Built) → answer r ≡ refused t
+      → Promise kind bytes ends values lot lot r
+  promise-listed {lot} t h e r a =
       record {
         outcome = refused t;
         outcome-is = sym (outcome-listed kind bytes ends values _ t e);
         answered = a;
-        trie-left = kept-left (t .number) h trie₀ _;
-        owns-left = kept-left (t .number) h owns₀ _;
-        notes-left = kept-left (t .number) h notes₀ _;
-        spots-left = kept-left (t .number) h spots₀ _;
-        base-left = kept-left (t .number) h base₀ _;
-        link-left = kept-left (t .number) h link₀ _;
-        output-left = kept-left (t .number) h output₀ _;
-        check-left = kept-left (t .number) h check₀ _;
-        depth-left = kept-left (t .number) h depth₀ _;
-        outs-left = kept-left (t .number) h outs₀ _;
+        trie-left = kept-left (t .number) h (lot .trie) _;
+        owns-left = kept-left (t .number) h (lot .owns) _;
+        notes-left = kept-left (t .number) h (lot .notes) _;
+        spots-left = kept-left (t .number) h (lot .spots) _;
+        base-left = kept-left (t .number) h (lot .base) _;
+        link-left = kept-left (t .number) h (lot .link) _;
+        output-left = kept-left (t .number) h (lot .output) _;
+        check-left = kept-left (t .number) h (lot .check) _;
+        depth-left = kept-left (t .number) h (lot .depth) _;
+        outs-left = kept-left (t .number) h (lot .outs) _;
       }

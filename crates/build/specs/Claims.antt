@@ -1,4 +1,4 @@
--- What is proved of the promise of `build`: when each answer is given, that no second answer or table could meet it, and that the tables of a
+-- What is proved of the promise of `build`: when each answer is given, that no second answer or lot could meet it, and that the tables of a
 -- good build agree with the accepted patterns. The proofs stand in ../proofs; `claims` there has them all.
 use mathlib.Core.Path.{_≡_}
 use mathlib.Core.List.{List}
@@ -10,10 +10,11 @@ use Rattle.list.specs.Limits.{mostCells}
 use Rattle.list.specs.Kinds.{kindOf}
 use Rattle.list.specs.Refusals.{Told, lowest, Exactly}
 use Rattle.list.specs.Claims.{Bytes, Sound}
-use Rattle.table.specs.Agrees.{Tables, Agrees}
+use Rattle.table.specs.Agrees.{Agrees}
 use Rattle.nfa.specs.Grown.{acceptedOf}
 use Rattle.whole.specs.Whole.{stateCount, cellCount}
 use Rattle.whole.specs.Refusing.{Lent, allRefusals, Suffices}
+use Rattle.build.specs.Lot.{Lot, resultsOf}
 use Rattle.build.specs.Outcome.{refused, made, refusal, countsOf, outcomeOf}
 use Rattle.build.specs.Promise.{Promise}
 use Rattle.table.specs.declared.Counts.{Counts}
@@ -41,37 +42,12 @@ pub record AnswerClaims (kind : ℕ) (bytes ends values : List ℕ) (slots : Len
   pub good : (outcomeOf kind bytes ends values slots ≡ made (countsOf kind (acceptedOf kind bytes ends)))
       ↔ (Sound kind bytes ends values × Suffices (acceptedOf kind bytes ends) slots)
 
--- two lots of tables are the same
-pub record Same (trie owns notes spots : List (List ℕ)) (base link output check depth : List ℕ) (outs : List (List ℕ))
-    (trie' owns' notes' spots' : List (List ℕ)) (base' link' output' check' depth' : List ℕ) (outs' : List (List ℕ)) : Type 0 where
-  pub same-trie : trie ≡ trie'
-  pub same-owns : owns ≡ owns'
-  pub same-notes : notes ≡ notes'
-  pub same-spots : spots ≡ spots'
-  pub same-base : base ≡ base'
-  pub same-link : link ≡ link'
-  pub same-output : output ≡ output'
-  pub same-check : check ≡ check'
-  pub same-depth : depth ≡ depth'
-  pub same-outs : outs ≡ outs'
-
--- of the promise for these inputs and these tables at entry
-pub record BuildClaims (kind : ℕ) (bytes ends values : List ℕ) (trie₀ owns₀ notes₀ spots₀ : List (List ℕ)) (base₀ link₀ output₀ check₀ depth₀ : List ℕ)
-    (outs₀ : List (List ℕ)) : Type 0 where
+-- of the promise for these inputs and this lot before
+pub record BuildClaims (kind : ℕ) (bytes ends values : List ℕ) (before : Lot) : Type 0 where
   -- no second answer could meet it
-  pub one-answer : (trie owns notes spots : List (List ℕ)) (base link output check depth : List ℕ) (outs : List (List ℕ)) (r : Built)
-      (trie' owns' notes' spots' : List (List ℕ)) (base' link' output' check' depth' : List ℕ) (outs' : List (List ℕ)) (r' : Built)
-      → Promise kind bytes ends values trie₀ owns₀ notes₀ spots₀ base₀ link₀ output₀ check₀ depth₀ outs₀ trie owns notes spots base link output check depth outs r
-      → Promise kind bytes ends values trie₀ owns₀ notes₀ spots₀ base₀ link₀ output₀ check₀ depth₀ outs₀ trie' owns' notes' spots' base' link' output' check' depth' outs' r'
-      → r ≡ r'
-  -- and no second tables
-  pub one-lot : (trie owns notes spots : List (List ℕ)) (base link output check depth : List ℕ) (outs : List (List ℕ)) (r : Built)
-      (trie' owns' notes' spots' : List (List ℕ)) (base' link' output' check' depth' : List ℕ) (outs' : List (List ℕ)) (r' : Built)
-      → Promise kind bytes ends values trie₀ owns₀ notes₀ spots₀ base₀ link₀ output₀ check₀ depth₀ outs₀ trie owns notes spots base link output check depth outs r
-      → Promise kind bytes ends values trie₀ owns₀ notes₀ spots₀ base₀ link₀ output₀ check₀ depth₀ outs₀ trie' owns' notes' spots' base' link' output' check' depth' outs' r'
-      → Same trie owns notes spots base link output check depth outs trie' owns' notes' spots' base' link' output' check' depth' outs'
+  pub one-answer : (after after' : Lot) (r r' : Built) → Promise kind bytes ends values before after r → Promise kind bytes ends values before after' r' → r ≡ r'
+  -- and no second lot after
+  pub one-lot : (after after' : Lot) (r r' : Built) → Promise kind bytes ends values before after r → Promise kind bytes ends values before after' r' → after ≡ after'
   -- the tables of a good build agree with the accepted patterns
-  pub agrees : (trie owns notes spots : List (List ℕ)) (base link output check depth : List ℕ) (outs : List (List ℕ)) (counts : Counts) → Bytes bytes
-      → Promise kind bytes ends values trie₀ owns₀ notes₀ spots₀ base₀ link₀ output₀ check₀ depth₀ outs₀ trie owns notes spots base link output check depth outs (Made counts)
-      → Agrees (record { base = base; link = link; output = output; check = check; depth = depth; outs = outs; cells = counts .cells; accepted = counts .accepted })
-      (kindOf kind) (acceptedOf kind bytes ends) values
+  pub agrees : (after : Lot) (counts : Counts) → Bytes bytes → Promise kind bytes ends values before after (Made counts)
+      → Agrees (resultsOf after counts) (kindOf kind) (acceptedOf kind bytes ends) values

@@ -1,3 +1,4 @@
+pub mod Lot
 pub mod Outcome
 pub mod Phases
 pub mod Promise

@@ -3,32 +3,16 @@ use mathlib.Core.Path.{_≡_}
 use mathlib.Core.List.{List}
 use mathlib.Core.Logic.{_⊎_}
 use mathlib.Core.Option.{Option, none, some}
-use Prim.Native.Nat.{ℕ, _-_, _/_}
-use lib.Dec.{ltb}
+use Prim.Native.Nat.{ℕ, _-_}
 use lib.ListN.{length}
-use Rattle.paper.specs.Lists.{pick}
 use Rattle.paper.specs.Patterns.{Entry}
-use Rattle.list.specs.Limits.{block, mostCells, smaller}
 use Rattle.list.specs.Refusals.{Told, lowest}
 use Rattle.nfa.specs.Grown.{acceptedOf}
 use Rattle.whole.specs.Whole.{stateCount, cellCount}
 use Rattle.whole.specs.Refusing.{Lent, allRefusals}
-use Rattle.table.specs.Slots.{columnSlots}
 use Rattle.table.specs.declared.Counts.{Counts}
 use Rattle.build.specs.declared.Built.{Built}
 use Rattle.build.specs.declared.Built.the-variants.{Made, BadKind, BadEnds, TooMany, Empty, TooLong, FewStates, FewCells, FewOutputs}
-
--- ---- the slots lent
-
--- where the slots lie in several slices, the shortest counts
-abbrev pub cellSlots : ℕ → ℕ → ℕ → ℕ → ℕ → ℕ → ℕ
-cellSlots spots base link output check depth = smaller spots (columnSlots base link output check depth)
-
--- the blocks that so many slots hold, within the limit
-abbrev pub blocksIn : ℕ → ℕ
-blocksIn slots = pick (ltb slots mostCells) (slots / block) (mostCells / block)
-
--- ---- the answer
 
 -- a refusal's number and index, or the counts of a good build
 pub data Outcome : Type 0 where

@@ -12,9 +12,9 @@ use Rattle.plan.specs.Cells.{Cell}
 use Rattle.cells.specs.Columns.{column}
 use Rattle.nfa.specs.Grown.{acceptedOf}
 use Rattle.whole.specs.Whole.{cellsOf, outputsOf}
+use Rattle.build.specs.Lot.{Lot, slotsOf}
 use Rattle.build.specs.Outcome.{Outcome, refused, made, answer, outcomeOf}
 use Rattle.wipe.specs.Wiped.{blank, blankRows}
-use Rattle.build.specs.Phases.{slotsOf}
 use Rattle.build.specs.declared.Built.{Built}
 
 -- a table at exit: as it was where 1 to 5 are told, zero where 6 to 8 are, and else what a good build leaves in it
@@ -26,21 +26,24 @@ left (made counts) was zero good = good
 abbrev pub outputRows : Kind → List Entry → List ℕ → ℕ → List (List ℕ)
 outputRows kind es values slots = outputsOf kind es values ++ replicate (slots - length es) (zeros 3)
 
--- what is promised of the answer r and of the tables, ₀ at entry; a good build leaves the working tables zero
-pub record Promise (kind : ℕ) (bytes ends values : List ℕ)
-    (trie₀ owns₀ notes₀ spots₀ : List (List ℕ)) (base₀ link₀ output₀ check₀ depth₀ : List ℕ) (outs₀ : List (List ℕ))
-    (trie owns notes spots : List (List ℕ)) (base link output check depth : List ℕ) (outs : List (List ℕ)) (r : Built) : Type 0 where
+-- what is promised of the answer r and of the lots before and after; a good build leaves the working tables zero
+pub record Promise (kind : ℕ) (bytes ends values : List ℕ) (before after : Lot) (r : Built) : Type 0 where
   pub outcome : Outcome
-  pub outcome-is : outcome ≡ outcomeOf kind bytes ends values
-      (slotsOf (length trie₀) (length owns₀) (length notes₀) (length spots₀) (length base₀) (length link₀) (length output₀) (length check₀) (length depth₀) (length outs₀))
+  pub outcome-is : outcome ≡ outcomeOf kind bytes ends values (slotsOf before)
   pub answered : answer r ≡ outcome
-  pub trie-left : trie ≡ left outcome trie₀ (blankRows 5 trie₀) (blankRows 5 trie₀)
-  pub owns-left : owns ≡ left outcome owns₀ (blankRows 2 owns₀) (blankRows 2 owns₀)
-  pub notes-left : notes ≡ left outcome notes₀ (blankRows 6 notes₀) (blankRows 6 notes₀)
-  pub spots-left : spots ≡ left outcome spots₀ (blankRows 2 spots₀) (blankRows 2 spots₀)
-  pub base-left : base ≡ left outcome base₀ (blank base₀) (column (λ x. x .base) (cellsOf (kindOf kind) (acceptedOf kind bytes ends)) (length base₀))
-  pub link-left : link ≡ left outcome link₀ (blank link₀) (column (λ x. x .link) (cellsOf (kindOf kind) (acceptedOf kind bytes ends)) (length link₀))
-  pub output-left : output ≡ left outcome output₀ (blank output₀) (column (λ x. x .output) (cellsOf (kindOf kind) (acceptedOf kind bytes ends)) (length output₀))
-  pub check-left : check ≡ left outcome check₀ (blank check₀) (column (λ x. x .check) (cellsOf (kindOf kind) (acceptedOf kind bytes ends)) (length check₀))
-  pub depth-left : depth ≡ left outcome depth₀ (blank depth₀) (column (λ x. x .depth) (cellsOf (kindOf kind) (acceptedOf kind bytes ends)) (length depth₀))
-  pub outs-left : outs ≡ left outcome outs₀ (blankRows 3 outs₀) (outputRows (kindOf kind) (acceptedOf kind bytes ends) values (length outs₀))
+  pub trie-left : after .trie ≡ left outcome (before .trie) (blankRows 5 (before .trie)) (blankRows 5 (before .trie))
+  pub owns-left : after .owns ≡ left outcome (before .owns) (blankRows 2 (before .owns)) (blankRows 2 (before .owns))
+  pub notes-left : after .notes ≡ left outcome (before .notes) (blankRows 6 (before .notes)) (blankRows 6 (before .notes))
+  pub spots-left : after .spots ≡ left outcome (before .spots) (blankRows 2 (before .spots)) (blankRows 2 (before .spots))
+  pub base-left : after .base
+      ≡ left outcome (before .base) (blank (before .base)) (column (λ x. x .base) (cellsOf (kindOf kind) (acceptedOf kind bytes ends)) (length (before .base)))
+  pub link-left : after .link
+      ≡ left outcome (before .link) (blank (before .link)) (column (λ x. x .link) (cellsOf (kindOf kind) (acceptedOf kind bytes ends)) (length (before .link)))
+  pub output-left : after .output
+      ≡ left outcome (before .output) (blank (before .output)) (column (λ x. x .output) (cellsOf (kindOf kind) (acceptedOf kind bytes ends)) (length (before .output)))
+  pub check-left : after .check
+      ≡ left outcome (before .check) (blank (before .check)) (column (λ x. x .check) (cellsOf (kindOf kind) (acceptedOf kind bytes ends)) (length (before .check)))
+  pub depth-left : after .depth
+      ≡ left outcome (before .depth) (blank (before .depth)) (column (λ x. x .depth) (cellsOf (kindOf kind) (acceptedOf kind bytes ends)) (length (before .depth)))
+  pub outs-left : after .outs
+      ≡ left outcome (before .outs) (blankRows 3 (before .outs)) (outputRows (kindOf kind) (acceptedOf kind bytes ends) values (length (before .outs)))

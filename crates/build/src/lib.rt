@@ -1,12 +1,14 @@
 // The tables of a pattern list: `build`, with refusals 1 to 8. All tables are lent and may hold anything. Working tables are zero again
 // after a good build; nothing is changed by 1 to 5, and all is zero after 6 to 8.
 use list::Listing;
+use list::limits::BLOCK;
 use table::Counts;
 use table::Depth;
 use wipe::wipe_results;
 use wipe::wipe_working;
 ghost use mathlib.Core.Path.{_≡_};
 ghost use Rattle.list.specs.Claims.{Sound};
+ghost use Rattle.build.specs.Lot.{lotOf};
 ghost use Rattle.build.specs.Outcome.{TableRefusal, answer, refusal};
 ghost use Rattle.build.specs.Promise.{Promise};
 
@@ -22,15 +24,15 @@ pub enum Built {
     BadKind,
     // 2: the counts of ends and values differ, or the ends don't cut the bytes.
     BadEnds,
-    // 3: more than 1,024 patterns are listed.
+    // 3: more than MOST_LISTED patterns are listed.
     TooMany,
     // 4: a pattern is empty; the lowest index of such a one.
     Empty(u32),
-    // 5: a pattern has more than 64 bytes; the lowest index of such a one.
+    // 5: a pattern has more than MOST_BYTES bytes; the lowest index of such a one.
     TooLong(u32),
     // 6: the states, root and dead counted, exceed the state slots.
     FewStates,
-    // 7: the cells exceed the cell slots, or 65,536.
+    // 7: the cells exceed the cell slots, or MOST_CELLS.
     FewCells,
     // 8: the accepted patterns exceed the output slots.
     FewOutputs,
@@ -69,10 +71,10 @@ fn make(
 ) -> Built
     requires { ⌜ Sound kind (now bytes) (now ends) (now values) ⌝ }
     ensures { λ r. ⌜ Promise kind (now (bytes .entry)) (now (ends .entry)) (now (values .entry))
-        (now (trie .entry)) (now (owns .entry)) (now (notes .entry)) (now (spots .entry))
-        (now (base .entry)) (now (link .entry)) (now (output .entry)) (now (check .entry)) (now (depth .entry)) (now (outs .entry))
-        (now (trie .exit)) (now (owns .exit)) (now (notes .exit)) (now (spots .exit))
-        (now (base .exit)) (now (link .exit)) (now (output .exit)) (now (check .exit)) (now (depth .exit)) (now (outs .exit)) r ⌝ }
+        (lotOf (now (trie .entry)) (now (owns .entry)) (now (notes .entry)) (now (spots .entry))
+        (now (base .entry)) (now (link .entry)) (now (output .entry)) (now (check .entry)) (now (depth .entry)) (now (outs .entry)))
+        (lotOf (now (trie .exit)) (now (owns .exit)) (now (notes .exit)) (now (spots .exit))
+        (now (base .exit)) (now (link .exit)) (now (output .exit)) (now (check .exit)) (now (depth .exit)) (now (outs .exit))) r ⌝ }
 {
     zeros::zero_pairs(spots);
     wipe_results(base, link, output, check, depth, outs);
@@ -102,7 +104,7 @@ fn make(
             kind: kind,
             accepted: accepted,
             states: states - 1,
-            cells: blocks * 256,
+            cells: blocks * BLOCK,
         }),
         Progress::Refused(number) => {
             wipe_results(base, link, output, check, depth, outs);
@@ -129,10 +131,10 @@ pub fn build(
     outs: &mut [[u32; 3]],
 ) -> Built
     ensures { λ r. ⌜ Promise kind (now (bytes .entry)) (now (ends .entry)) (now (values .entry))
-        (now (trie .entry)) (now (owns .entry)) (now (notes .entry)) (now (spots .entry))
-        (now (base .entry)) (now (link .entry)) (now (output .entry)) (now (check .entry)) (now (depth .entry)) (now (outs .entry))
-        (now (trie .exit)) (now (owns .exit)) (now (notes .exit)) (now (spots .exit))
-        (now (base .exit)) (now (link .exit)) (now (output .exit)) (now (check .exit)) (now (depth .exit)) (now (outs .exit)) r ⌝ }
+        (lotOf (now (trie .entry)) (now (owns .entry)) (now (notes .entry)) (now (spots .entry))
+        (now (base .entry)) (now (link .entry)) (now (output .entry)) (now (check .entry)) (now (depth .entry)) (now (outs .entry)))
+        (lotOf (now (trie .exit)) (now (owns .exit)) (now (notes .exit)) (now (spots .exit))
+        (now (base .exit)) (now (link .exit)) (now (output .exit)) (now (check .exit)) (now (depth .exit)) (now (outs .exit))) r ⌝ }
 {
     match list::check_list(kind, bytes, ends, values) {
         Listing::BadKind => return Built::BadKind,

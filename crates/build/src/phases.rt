@@ -9,6 +9,7 @@ ghost use mathlib.Core.List.{List};
 ghost use Prim.Native.Nat.{ℕ};
 ghost use lib.ListN.{length};
 ghost use Rattle.paper.specs.Patterns.{Entry, Kind};
+ghost use Rattle.build.specs.Lot.{lotOf};
 ghost use Rattle.build.specs.Phases.{LayableSome, Layable, LaidBy, Fillable, FillableSome, Filled, Prepared, PhasesOk};
 
 pub(crate) enum Progress {
@@ -47,13 +48,16 @@ fn fill(
     states: u32,
     blocks: u32,
 ) -> u32
-    requires { ⌜ FillableSome (now trie) (now owns) (now notes) (now spots) (now values)
-        (now base) (now link) (now output) (now check) (now depth) (now outs) states blocks ⌝ }
-    ensures { λ r. ⌜ ((kind : Kind) (es : List Entry) → Fillable kind es (now (trie .entry)) (now (owns .entry)) (now (notes .entry)) (now (spots .entry)) (now (values .entry))
-        (now (base .entry)) (now (link .entry)) (now (output .entry)) (now (check .entry)) (now (depth .entry)) (now (outs .entry)) states blocks
+    requires { ⌜ FillableSome (now values) (lotOf (now trie) (now owns) (now notes) (now spots)
+        (now base) (now link) (now output) (now check) (now depth) (now outs)) states blocks ⌝ }
+    ensures { λ r. ⌜ ((kind : Kind) (es : List Entry) → Fillable kind es (now (values .entry))
+        (lotOf (now (trie .entry)) (now (owns .entry)) (now (notes .entry)) (now (spots .entry))
+        (now (base .entry)) (now (link .entry)) (now (output .entry)) (now (check .entry)) (now (depth .entry)) (now (outs .entry))) states blocks
         → Filled kind es (now (values .entry))
-        (length (now (base .entry))) (length (now (link .entry))) (length (now (output .entry))) (length (now (check .entry))) (length (now (depth .entry))) (length (now (outs .entry)))
-        (now (base .exit)) (now (link .exit)) (now (output .exit)) (now (check .exit)) (now (depth .exit)) (now (outs .exit)) r) ⌝ }
+        (lotOf (now (trie .entry)) (now (owns .entry)) (now (notes .entry)) (now (spots .entry))
+        (now (base .entry)) (now (link .entry)) (now (output .entry)) (now (check .entry)) (now (depth .entry)) (now (outs .entry)))
+        (lotOf (now (trie .entry)) (now (owns .entry)) (now (notes .exit)) (now (spots .entry))
+        (now (base .exit)) (now (link .exit)) (now (output .exit)) (now (check .exit)) (now (depth .exit)) (now (outs .exit))) r) ⌝ }
 {
     let stored = outputs::store_outputs(trie, owns, notes, values, outs, states);
     cells::write_cells(
@@ -87,11 +91,13 @@ pub(crate) fn phases(
     depth: &mut [Depth],
     outs: &mut [[u32; 3]],
 ) -> Progress
-    requires { ⌜ Prepared kind (now bytes) (now ends) (now values) (now spots) (now base) (now link) (now output) (now check) (now depth) (now outs) ⌝ }
+    requires { ⌜ Prepared kind (now bytes) (now ends) (now values) (lotOf (now trie) (now owns) (now notes) (now spots)
+        (now base) (now link) (now output) (now check) (now depth) (now outs)) ⌝ }
     ensures { λ r. ⌜ PhasesOk kind (now (bytes .entry)) (now (ends .entry)) (now (values .entry))
-        (length (now (trie .entry))) (length (now (owns .entry))) (length (now (notes .entry))) (length (now (spots .entry)))
-        (length (now (base .entry))) (length (now (link .entry))) (length (now (output .entry))) (length (now (check .entry))) (length (now (depth .entry))) (length (now (outs .entry)))
-        (now (base .exit)) (now (link .exit)) (now (output .exit)) (now (check .exit)) (now (depth .exit)) (now (outs .exit)) r ⌝ }
+        (lotOf (now (trie .entry)) (now (owns .entry)) (now (notes .entry)) (now (spots .entry))
+        (now (base .entry)) (now (link .entry)) (now (output .entry)) (now (check .entry)) (now (depth .entry)) (now (outs .entry)))
+        (lotOf (now (trie .exit)) (now (owns .exit)) (now (notes .exit)) (now (spots .exit))
+        (now (base .exit)) (now (link .exit)) (now (output .exit)) (now (check .exit)) (now (depth .exit)) (now (outs .exit))) r ⌝ }
 {
     let Grew::On { states, accepted } = nfa::grow(kind, bytes, ends, values, trie, owns, notes)
     else {

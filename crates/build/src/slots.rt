@@ -1,10 +1,13 @@
 // The slots that are lent: where they lie in several slices, the shortest counts.
+use list::limits::BLOCK;
+use list::limits::MOST_CELLS;
 use list::limits::least;
 use table::Depth;
 use table::slots::column_slots;
 ghost use mathlib.Core.Path.{_≡_};
 ghost use lib.ListN.{length};
-ghost use Rattle.build.specs.Outcome.{cellSlots, blocksIn};
+ghost use Rattle.build.specs.Lot.{cellSlots};
+ghost use Rattle.build.specs.Phases.{blocksIn};
 
 pub(crate) fn cell_slots(
     spots: &[[u32; 2]],
@@ -20,13 +23,15 @@ pub(crate) fn cell_slots(
     least(spots.len(), column_slots(base, link, output, check, depth))
 }
 
+const MOST_BLOCKS: u32 = (MOST_CELLS / BLOCK as usize) as u32;
+
 // The blocks that the slots hold, but no more than the limit.
 pub(crate) fn most_blocks(slots: usize) -> u32
     ensures { λ r. ⌜ r ≡ blocksIn slots ⌝ }
 {
-    if slots < 65536 {
-        (slots / 256) as u32
+    if slots < MOST_CELLS {
+        (slots / BLOCK as usize) as u32
     } else {
-        256
+        MOST_BLOCKS
     }
 }

@@ -12,7 +12,7 @@ use lib.ListN.{length, set}
 use lib.Seq.{getD-set-same, getD-set-other}
 use Rattle.zeros.specs.Rows.{field}
 use Rattle.paper.proofs.Tests.{clash}
-use Rattle.list.specs.Limits.{block}
+use Rattle.list.specs.Limits.{alphabet, block}
 use Rattle.plan.specs.Placement.{firstWhere}
 use Rattle.plan.proofs.Scans.{first-some}
 use Rattle.spots.specs.Charted.{based}
@@ -107,11 +107,11 @@ module _ {spots : List (List ℕ)} {check₀ : List ℕ} where
 -- ---- a check is a byte
 
 -- two cells of one block differ in a byte
-pub same-block : (n u j : ℕ) → n * block ≤ u → u < n * block + block → n * block ≤ j → j < n * block + block → bitXor u j < 256
+pub same-block : (n u j : ℕ) → n * block ≤ u → u < n * block + block → n * block ≤ j → j < n * block + block → bitXor u j < alphabet
 same-block n u j a b h l = omega (arith, high)
   where
-    quotient : (i : ℕ) → n * block ≤ i → i < n * block + block → i / 256 ≡ n
+    quotient : (i : ℕ) → n * block ≤ i → i < n * block + block → i / block ≡ n
     quotient i p q = omega arith
 
-    high : bitXor u j / 256 ≡ 0
+    high : bitXor u j / block ≡ 0
     high = xor-shr u j 8 ∙ rw (quotient u a b, quotient j h l) (xor-self n)

@@ -1,4 +1,5 @@
 // Inner: the cells of the placed states, in lent columns that are zero (the crate's `build_double_array` and `remove_invalid_checks`).
+use list::limits::BLOCK;
 use placement::cell_of;
 use spots::Base;
 use table::Depth;
@@ -15,8 +16,6 @@ ghost use Rattle.plan.specs.Placement.{Layout};
 ghost use Rattle.plan.specs.Cells as plan;
 ghost use Rattle.cells.specs.Columns.{Writable, WritableSome, Blanks, Written};
 ghost use Rattle.cells.specs.Writing.{groupBase, ownByte, Readable, Inside, CellWritten, StatesWritten, isSpare, Spared, Block, BlocksSpared};
-
-const BLOCK: u32 = 256;
 
 // The base of a state's group, 0 for a childless state. Every child's cell is the base xor its byte, so the first child's tells it.
 fn base_of(trie: &[[u32; 5]], notes: &[[u32; 6]], s: TrieId) -> u32

@@ -15,8 +15,8 @@ use Rattle.list.proofs.Sound.{sound-filled}
 use Rattle.table.specs.Agrees.{Agrees}
 use Rattle.nfa.specs.Grown.{acceptedOf}
 use Rattle.whole.specs.Refusing.{Lent, Suffices}
+use Rattle.build.specs.Lot.{slotsOf}
 use Rattle.build.specs.Outcome.{Outcome, refused, made, outcomeOf}
-use Rattle.build.specs.Phases.{slotsOf}
 use Rattle.build.proofs.Claims.{good-told, answer-claims, build-claims}
 use Rattle.meaning.specs.Repeated.{thenEnd}
 use Rattle.meaning.specs.Demands.{valueIn, kindNumber}
@@ -30,9 +30,7 @@ kindIn (made counts) = counts .kind
 
 module _ {kind : ℕ} {bytes ends values : List ℕ} (b : GoodBuild kind bytes ends values) where
   slots : Lent
-  slots =
-      slotsOf (length (b .entry .trie)) (length (b .entry .owns)) (length (b .entry .notes)) (length (b .entry .spots)) (length (b .entry .base))
-      (length (b .entry .link)) (length (b .entry .output)) (length (b .entry .check)) (length (b .entry .depth)) (length (b .entry .outs))
+  slots = slotsOf (b .entry)
 
   was-made : outcomeOf kind bytes ends values slots ≡ made (b .counts)
   unfolding slots
@@ -50,7 +48,7 @@ module _ {kind : ℕ} {bytes ends values : List ℕ} (b : GoodBuild kind bytes e
   kind-is = ap kindIn (sym was-made ∙ answer-claims kind bytes ends values slots .good .1 cause)
 
   pub agrees : Bytes bytes → Agrees (tablesLeft b) (kindOf kind) (acceptedOf kind bytes ends) values
-  agrees B = build-claims kind bytes ends values _ _ _ _ _ _ _ _ _ _ .agrees _ _ _ _ _ _ _ _ _ _ (b .counts) B (b .promised)
+  agrees B = build-claims kind bytes ends values (b .entry) .agrees (b .exit) (b .counts) B (b .promised)
 
 -- the listed patterns have rising rows and none is empty
 rows-proper : (ps : List (List ℕ)) → Filled ps → Proper (rows ps)
@@ -64,14 +62,9 @@ standard-day bytes ends values text b B C short =
     let D = meaning.claims .standard-holds (tablesLeft b) es values text (agrees b B) C short in
     let P = rows-proper (patternsOf bytes ends) (filled b) in
     record {
-      overlapping-says = λ n. rw (kind-is b) (D .overlapping-says n);
+      demands = rw (kind-is b) D;
       overlapping-list = lists .overlapping-is es text P;
-      plain-says = λ n. rw (kind-is b) (D .plain-says n);
       plain-list = lists .plain-is es text P;
-      overlapping-moves = rw (kind-is b) (D .overlapping-moves);
-      plain-moves = rw (kind-is b) (D .plain-moves);
-      overlapping-bound = rw (kind-is b) (D .overlapping-bound);
-      plain-bound = rw (kind-is b) (D .plain-bound);
     }
 
 kind-of : (c : Choice) → kindOf (kindNumber c) ≡ leftmost c
@@ -87,7 +80,11 @@ leftmost-day c bytes ends values text b B C short =
     = rw (← kind-of c) (agrees b B) in
     let D = meaning.claims .leftmost-holds (tablesLeft b) c ps values text (filled b) A C short in
     record {
-      leftmost-says = λ n. rw (kind-is b) (D .leftmost-says n ∙ ap (λ (l : List Occurrence). thenEnd n (withPayloads (valueIn values) l)) (lists .same-list c ps text (filled b)));
+      demands = rw (kind-is b)
+          (record {
+            leftmost-says = λ n. D .leftmost-says n ∙ ap (λ (l : List Occurrence). thenEnd n (withPayloads (valueIn values) l)) (lists .same-list c ps text (filled b));
+            leftmost-moves = D .leftmost-moves;
+          });
       leftmost-list = lists .leftmost-is c (rows ps) text (rows-proper ps (filled b));
     }
 

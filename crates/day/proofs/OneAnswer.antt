@@ -3,45 +3,25 @@ use mathlib.Core.Path.{_≡_, sym, ap, _∙_}
 use mathlib.Core.List.{List}
 use Prim.Native.Nat.{ℕ}
 use lib.ListN.{length}
-use Rattle.build.specs.Claims.{Same}
 use Rattle.build.proofs.Claims as build
 use Rattle.search.proofs.Claims as search
 use Rattle.sheet.proofs.Claims as sheet
 use Rattle.build.specs.declared.Built.{Built}
+use Rattle.build.specs.Lot.{Lot}
 use Rattle.build.specs.Outcome.{answer}
+use Rattle.build.specs.Promise.{Promise}
 use Rattle.boundary.specs.Boundary.{numberOf, beside}
-use Rattle.day.specs.EndToEnd.{Lot}
-use Rattle.day.specs.OneAnswer.{Only, Promised, OneAnswer}
+use Rattle.day.specs.OneAnswer.{Only, OneAnswer}
 
 only : {A : Type 0} (a : A) → Only a
 only a r r' p q = p ∙ sym q
 
--- lots with the same tables are the same
-same-lot : (x y : Lot)
-    → Same (x .trie) (x .owns) (x .notes) (x .spots) (x .base) (x .link) (x .output) (x .check) (x .depth) (x .outs)
-    (y .trie) (y .owns) (y .notes) (y .spots) (y .base) (y .link) (y .output) (y .check) (y .depth) (y .outs)
-    → x ≡ y
-same-lot x y S =
-    λ i. record {
-      trie = S .same-trie i;
-      owns = S .same-owns i;
-      notes = S .same-notes i;
-      spots = S .same-spots i;
-      base = S .same-base i;
-      link = S .same-link i;
-      output = S .same-output i;
-      check = S .same-check i;
-      depth = S .same-depth i;
-      outs = S .same-outs i;
-    }
-
 one-build : (kind : ℕ) (bytes ends values : List ℕ) (entry exit exit' : Lot) (r r' : Built)
-    → Promised kind bytes ends values entry exit r
-    → Promised kind bytes ends values entry exit' r'
+    → Promise kind bytes ends values entry exit r
+    → Promise kind bytes ends values entry exit' r'
     → (r ≡ r') × (exit ≡ exit')
 one-build kind bytes ends values entry exit exit' r r' p q =
-    let C = build.build-claims kind bytes ends values (entry .trie) (entry .owns) (entry .notes) (entry .spots) (entry .base) (entry .link) (entry .output) (entry .check) (entry .depth) (entry .outs) in
-    (C .one-answer _ _ _ _ _ _ _ _ _ _ r _ _ _ _ _ _ _ _ _ _ r' p q, same-lot exit exit' (C .one-lot _ _ _ _ _ _ _ _ _ _ r _ _ _ _ _ _ _ _ _ _ r' p q))
+    let C = build.build-claims kind bytes ends values entry in (C .one-answer exit exit' r r' p q, C .one-lot exit exit' r r' p q)
 
 pub one-answer : OneAnswer
 one-answer =

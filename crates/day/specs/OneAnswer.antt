@@ -11,6 +11,7 @@ use Rattle.table.specs.declared.Found.{Found}
 use Rattle.table.specs.declared.Linked.{Linked}
 use Rattle.table.specs.declared.Begins.{Begins}
 use Rattle.table.specs.declared.Shown.{Shown}
+use Rattle.build.specs.Lot.{Lot}
 use Rattle.build.specs.Promise.{Promise}
 use Rattle.build.specs.declared.Built.{Built}
 use Rattle.search.specs.Values.{Which, begun, answer}
@@ -20,27 +21,10 @@ use Rattle.search.specs.declared.Answer.{Answer}
 use Rattle.sheet.specs.declared.Filled.{Filled}
 use Rattle.sheet.specs.Sheet.{Load, sheetOf, written, Tells}
 use Rattle.boundary.specs.Boundary.{BuildPromise, heldIn, SearchPromise}
-use Rattle.day.specs.EndToEnd.{Lot}
 
 -- two answers that are both this one
 abbrev pub Only : {A : Type 0} → A → Type 0
 Only {A} a = (r r' : A) → r ≡ a → r' ≡ a → r ≡ r'
-
--- the promise of `build` for tables at entry and at exit
-abbrev pub Promised : ℕ → List ℕ → List ℕ → List ℕ → Lot → Lot → Built → Type 0
-Promised kind bytes ends values entry exit r =
-    Promise kind bytes ends values
-    (entry .trie) (entry .owns) (entry .notes) (entry .spots) (entry .base) (entry .link) (entry .output) (entry .check) (entry .depth) (entry .outs)
-    (exit .trie) (exit .owns) (exit .notes) (exit .spots) (exit .base) (exit .link) (exit .output) (exit .check) (exit .depth) (exit .outs)
-    r
-
--- the promise of the exported build likewise, with the four numbers beside the answer
-abbrev pub Exported : ℕ → List ℕ → List ℕ → List ℕ → Lot → Lot → List ℕ → ℕ → Type 0
-Exported kind bytes ends values entry exit counts r =
-    BuildPromise kind bytes ends values
-    (entry .trie) (entry .owns) (entry .notes) (entry .spots) (entry .base) (entry .link) (entry .output) (entry .check) (entry .depth) (entry .outs)
-    (exit .trie) (exit .owns) (exit .notes) (exit .spots) (exit .base) (exit .link) (exit .output) (exit .check) (exit .depth) (exit .outs)
-    counts r
 
 -- each public function by its name
 pub record OneAnswer : Type 0 where
@@ -52,8 +36,8 @@ pub record OneAnswer : Type 0 where
   pub column-slots : (base link output check depth : ℕ) → Only (columnSlots base link output check depth)
   -- a build: the answer, and every lent table
   pub build : (kind : ℕ) (bytes ends values : List ℕ) (entry exit exit' : Lot) (r r' : Built)
-      → Promised kind bytes ends values entry exit r
-      → Promised kind bytes ends values entry exit' r'
+      → Promise kind bytes ends values entry exit r
+      → Promise kind bytes ends values entry exit' r'
       → (r ≡ r') × (exit ≡ exit')
   -- the value that a search begins with, and the three searches
   pub fresh : Only begun
@@ -70,8 +54,8 @@ pub record OneAnswer : Type 0 where
       → (r ≡ r') × (sheet ≡ sheet')
   -- the exported build: the number, the four beside it, and every lent table
   pub exported-build : (kind : ℕ) (bytes ends values : List ℕ) (entry exit exit' : Lot) (counts counts' : List ℕ) (r r' : ℕ)
-      → Exported kind bytes ends values entry exit counts r
-      → Exported kind bytes ends values entry exit' counts' r'
+      → BuildPromise kind bytes ends values entry exit counts r
+      → BuildPromise kind bytes ends values entry exit' counts' r'
       → (r ≡ r') × (counts ≡ counts') × (exit ≡ exit')
   -- the exported searches: the number, the value in its variables, the sheet and the count
   pub exported-search : (l : Load) (sheet₀ sheet sheet' : List (List ℕ)) (state pending place moves state' pending' place' moves' count count' r r' : ℕ)

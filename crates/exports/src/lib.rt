@@ -8,6 +8,7 @@ use boundary::number_of;
 use table::Depth;
 ghost use mathlib.Core.Path.{_≡_};
 ghost use lib.ListN.{length};
+ghost use Rattle.build.specs.Lot.{lotOf};
 ghost use Rattle.search.specs.Values.{overlapping, plain, leftmost, lent};
 ghost use Rattle.sheet.specs.Sheet.{sheetOf};
 ghost use Rattle.boundary.specs.Boundary.{BuildPromise, countsOf, heldIn, SearchPromise};
@@ -32,10 +33,10 @@ pub extern "C" fn rotspangle_build(
     counts: &mut [u32; 4],
 ) -> u32
     ensures { λ r. ⌜ BuildPromise kind (now (bytes .entry)) (now (ends .entry)) (now (values .entry))
-        (now (trie .entry)) (now (owns .entry)) (now (notes .entry)) (now (spots .entry))
-        (now (base .entry)) (now (link .entry)) (now (output .entry)) (now (check .entry)) (now (depth .entry)) (now (outs .entry))
-        (now (trie .exit)) (now (owns .exit)) (now (notes .exit)) (now (spots .exit))
-        (now (base .exit)) (now (link .exit)) (now (output .exit)) (now (check .exit)) (now (depth .exit)) (now (outs .exit)) (now (counts .exit)) r ⌝ }
+        (lotOf (now (trie .entry)) (now (owns .entry)) (now (notes .entry)) (now (spots .entry))
+        (now (base .entry)) (now (link .entry)) (now (output .entry)) (now (check .entry)) (now (depth .entry)) (now (outs .entry)))
+        (lotOf (now (trie .exit)) (now (owns .exit)) (now (notes .exit)) (now (spots .exit))
+        (now (base .exit)) (now (link .exit)) (now (output .exit)) (now (check .exit)) (now (depth .exit)) (now (outs .exit))) (now (counts .exit)) r ⌝ }
 {
     let built = build::build(
         kind,

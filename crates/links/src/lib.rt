@@ -1,4 +1,5 @@
 // Inner: the failure links of the trie's states (the crate's `build_fails` and `build_fails_leftmost`), breadth first.
+use list::limits::ALPHABET;
 use trie::Place;
 use trie::TrieId;
 ghost use mathlib.Core.Path.{_≡_};
@@ -56,7 +57,7 @@ fn set_link(notes: &mut [[u32; 6]], s: TrieId, t: TrieId)
 
 // The child of a state on a byte; root, which is no child, where there is none. Root has up to 256 children, and nearly every hunt asks it,
 // so its children stand in a table of their own.
-fn child(trie: &[[u32; 5]], tops: &[u32; 256], s: TrieId, byte: u32) -> TrieId
+fn child(trie: &[[u32; 5]], tops: &[u32; ALPHABET], s: TrieId, byte: u32) -> TrieId
     requires { ⌜ Known (now trie) (s .0) × (byte < alphabet) ⌝ }
     ensures { λ r. ⌜ ((ns : List (List ℕ)) → Trie alphabet (slotsOf (now (trie .entry))) ns → Tops ns (now (tops .entry)) → s .0 < length ns
         → Step alphabet ns (getD ns (s .0) []) byte (r .0)) ⌝ }
@@ -72,11 +73,11 @@ fn child(trie: &[[u32; 5]], tops: &[u32; 256], s: TrieId, byte: u32) -> TrieId
 }
 
 // Root's children by byte.
-fn top_children(trie: &[[u32; 5]]) -> [u32; 256]
+fn top_children(trie: &[[u32; 5]]) -> [u32; ALPHABET]
     requires { ⌜ Known (now trie) 0 ⌝ }
     ensures { λ r. ⌜ ((ns : List (List ℕ)) → Trie alphabet (slotsOf (now (trie .entry))) ns → Tops ns r) ⌝ }
 {
-    let mut tops = [0; 256];
+    let mut tops = [0; ALPHABET];
     let mut t = trie::first_child(trie, TrieId(0));
     while t.0 != 0 {
         let c = trie::label(trie, t) as usize;
@@ -129,7 +130,7 @@ fn link_tops(trie: &[[u32; 5]], notes: &mut [[u32; 6]]) -> usize
 fn link_children(
     trie: &[[u32; 5]],
     notes: &mut [[u32; 6]],
-    tops: &[u32; 256],
+    tops: &[u32; ALPHABET],
     s: TrieId,
     tail: usize,
 ) -> usize

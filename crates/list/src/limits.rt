@@ -14,9 +14,10 @@ pub const MOST_CELLS: usize = 65536;
 
 pub const MOST_TEXT: usize = 65536;
 
-pub const BLOCK: usize = 256;
+// The cells of a block, and the blocks, counted from the last, in which a place is looked for.
+pub const BLOCK: u32 = 256;
 
-pub const WINDOW: usize = 16;
+pub const WINDOW: u32 = 16;
 
 // Where slots lie in several slices, the shortest counts.
 pub fn least(a: usize, b: usize) -> usize

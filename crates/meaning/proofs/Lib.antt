@@ -1,6 +1,7 @@
 pub mod Steps
 pub mod Lengths
 pub mod Repeating
+pub mod Counting
 pub mod Unrefused
 pub mod StandardWalk
 pub mod Overlapping
@@ -9,4 +10,5 @@ pub mod Standard
 pub mod LeftmostPaper
 pub mod LeftmostWalk
 pub mod LeftmostCalls
+pub mod ShutOut
 pub mod Claims

@@ -54,13 +54,13 @@ module _ (values : List ℕ) (next : Search → Outcome) (Left : Search → List
       let t = turns v l h in
       ap₂ (λ (s : Saying) (r : List Saying). s ∷ r) (t .says) (repeated n (handedBack (next v)) (others l) (t .leaves)) ∙ then-more values n l
 
-  -- what holds of each value with something or nothing left holds of each value that is handed back
-  pub handed : (Holds : Search → Type 0) → ((v : Search) (l : List Occurrence) → Left v l → Holds v) → (n : ℕ) (v : Search) (l : List Occurrence) → Left v l
-      → (o : Outcome) → List·Memᴰ o (answers next n v) → Holds (handedBack o)
+  -- what holds of the answer to each value with something or nothing left holds of every answer in turn
+  pub each-answer : (Holds : Outcome → Type 0) → ((v : Search) (l : List Occurrence) → Left v l → Holds (next v)) → (n : ℕ) (v : Search) (l : List Occurrence)
+      → Left v l
+      → (o : Outcome) → List·Memᴰ o (answers next n v) → Holds o
   unfolding answers
-  handed Holds holds zero v l h o m = absurd (List·Memᴰ·not-nil m)
-  handed Holds holds (suc n) v l h o m =
-      let t = turns v l h in
-      ⊎-elim (λ e. subst (λ (a : Outcome). Holds (handedBack a)) (sym e) (holds (handedBack (next v)) (others l) (t .leaves)))
-      (λ k. handed Holds holds n (handedBack (next v)) (others l) (t .leaves) o k)
+  each-answer Holds holds zero v l h o m = absurd (List·Memᴰ·not-nil m)
+  each-answer Holds holds (suc n) v l h o m =
+      ⊎-elim (λ e. subst Holds (sym e) (holds v l h))
+      (λ k. each-answer Holds holds n (handedBack (next v)) (others l) (turns v l h .leaves) o k)
       (List·Memᴰ·cases-cons m)

@@ -9,7 +9,7 @@ use lib.Bits.{bitXor}
 use lib.ListN.{length, getD}
 use Rattle.paper.specs.Patterns.{Entry}
 use Rattle.paper.specs.Automaton.{isState}
-use Rattle.list.specs.Limits.{alphabet, block, mostCells}
+use Rattle.list.specs.Limits.{alphabet, block, mostCells, windowBlocks}
 use Rattle.plan.specs.Names.{names}
 use Rattle.plan.specs.Breadth.{kidBytes}
 use Rattle.plan.specs.Groups.{Group, bytesOf}
@@ -159,7 +159,7 @@ module _ {es : List Entry} {l : Layout} {trie notes spots : List (List ℕ)} {s 
   -- the second look always finds an index
   pub second-finds : look block firstBlock (grown l) g ≡ none → ⊥
   second-finds e =
-      let x = look-grown alphabet bytes firstBlock (window-reaches 16 (omega arith)) l g (T .looks .good) lettered in
+      let x = look-grown alphabet bytes firstBlock (window-reaches windowBlocks (omega arith)) l g (T .looks .good) lettered in
       Option·none-ne-some (x .0) (sym e ∙ x .1)
 
   pub turned-more : {after chart after' chart' : List (List ℕ)} → Looked es l g s notes after chart false

@@ -13,7 +13,7 @@ use Rattle.paper.specs.Lists.{snoc}
 use Rattle.paper.specs.Patterns.{Entry}
 use Rattle.paper.specs.Automaton.{isState}
 use Rattle.paper.proofs.Strings.{snoc-parent}
-use Rattle.list.specs.Limits.{alphabet, block}
+use Rattle.list.specs.Limits.{alphabet, block, windowBlocks}
 use Rattle.plan.specs.Names.{names}
 use Rattle.plan.specs.Breadth.{kidBytes}
 use Rattle.plan.specs.Groups.{Group, bytesOf, OtherParent}
@@ -82,7 +82,7 @@ module _ {es : List Entry} {gs : List Group} {trie notes₀ spots₀ : List (Lis
 
   good-to : (i : ℕ) → Good alphabet (laidOut (take i gs))
   good-to i =
-      all-good alphabet bytes firstBlock (window-reaches 16 (omega arith)) oneBlock (take i gs) (begun-good alphabet) (λ g m. letters g (in-take i gs m))
+      all-good alphabet bytes firstBlock (window-reaches windowBlocks (omega arith)) oneBlock (take i gs) (begun-good alphabet) (λ g m. letters g (in-take i gs m))
 
   module _ {i : ℕ} (here : i < length gs) {notes spots : List (List ℕ)} {blocks : ℕ} (R : Round es gs notes₀ notes spots i most blocks) {s : ℕ}
       (e : s ≡ field notes i 3) where
@@ -133,7 +133,7 @@ module _ {es : List Entry} {gs : List Group} {trie notes₀ spots₀ : List (Lis
     other p m =
         sorted-take OtherParent gs (P .grouping .once) i noGroup (p .group) here
         (subst (λ (l : List Group). List·Memᴰ (p .group) l)
-        (all-groups alphabet bytes firstBlock (window-reaches 16 (omega arith)) oneBlock (take i gs) (begun-good alphabet) (λ h k. letters h (in-take i gs k)))
+        (all-groups alphabet bytes firstBlock (window-reaches windowBlocks (omega arith)) oneBlock (take i gs) (begun-good alphabet) (λ h k. letters h (in-take i gs k)))
         (Memᴰ·map (λ (q : Placed). q .group) m))
 
     module _ {after chart : List (List ℕ)} {more : ℕ} (T : Turned es (laidOut (take i gs)) g s notes after chart most more) where

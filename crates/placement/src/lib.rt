@@ -1,4 +1,6 @@
 // Inner: each group gets its base, and each state its cell (the crate's `BuildHelper::new`), in the order of a lent table of groups.
+use list::limits::BLOCK;
+use list::limits::WINDOW;
 use spots::Base;
 use table::CellId;
 use trie::TrieId;
@@ -16,11 +18,6 @@ ghost use Rattle.placement.specs.Seats.{Seat, SeatSome, SeatedAt, Look, 
 
 // The field of a state's notes.
 const CELL: usize = 5;
-
-// The cells of a block, and the blocks of the range, counted from the last.
-const BLOCK: u32 = 256;
-
-const WINDOW: u32 = 16;
 
 // How many blocks there are, or that the lent cells don't suffice.
 pub enum Blocks {

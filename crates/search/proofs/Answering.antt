@@ -15,7 +15,7 @@ use Rattle.search.specs.declared.seek.Sought.{Sought}
 use Rattle.search.specs.declared.seek.Sought.the-variants as sought
 use Rattle.search.specs.declared.keep.Kept.{Kept}
 use Rattle.search.specs.declared.keep.Kept.the-variants as kept
-use Rattle.search.specs.Values.{Which, overlapping, plain, leftmost, valueOf, matchOf, Outcome, gives, ends, refuses}
+use Rattle.search.specs.Values.{Which, overlapping, plain, leftmost, root, valueOf, matchOf, Outcome, gives, ends, refuses}
 use Rattle.search.specs.Searches.{seekOf, keepOf, rest, cleared, from, isLeftmost, afterLeftmost, atOutput, atEnd, walkOf, nextOf}
 use Rattle.search.specs.Damage.{WalkMeets, KeepMeets, ShowsAtFirst, Damaged, at-first, in-walk, with-match}
 use Rattle.search.specs.Claims.{WrongKind}
@@ -26,10 +26,10 @@ use Rattle.search.proofs.Entering.{Ready, Course, wrong, long, shows, w
 
 -- ---- what an answer says
 
--- leftmost search goes on from a match's end
+-- a match leaves the place at its end, plain search at root with no output to give, leftmost search with no moves too
 abbrev pub AfterMatch : Which → Match → Search → Type 0
-AfterMatch overlapping m u = Unit {0}
-AfterMatch plain m u = Unit {0}
+AfterMatch overlapping m u = u .place ≡ m .end
+AfterMatch plain m u = (u .place ≡ m .end) × (u .state .0 ≡ root) × (u .output ≡ 0)
 AfterMatch leftmost m u = u ≡ afterLeftmost (m .end)
 
 -- the end leaves the place at the text's end with no output to give, leftmost search at root and with no moves
@@ -97,8 +97,8 @@ module _ (T : Tables) (kind : ℕ) (text : List ℕ) (v : Search) (short : lengt
   -- the answers at an output and at the text's end
   output-says : (w : Which) → (WrongKind w kind → ⊥) → (row : Row) (at : Search) → found w ≡ sought.Given row at
       → Says w T kind text v (atOutput w T text v row at)
-  output-says overlapping n row at e = tt
-  output-says plain n row at e = tt
+  output-says overlapping n row at e = refl
+  output-says plain n row at e = (refl, refl, refl)
   output-says leftmost n row at e = go (held row at) refl
     where
       go : (r : Kept) → held row at ≡ r → Says leftmost T kind text v (atOutput leftmost T text v row at)

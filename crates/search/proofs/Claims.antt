@@ -14,8 +14,8 @@ use Rattle.search.specs.declared.Answer.{Answer}
 use Rattle.search.specs.declared.Answer.the-variants as answers
 use Rattle.search.specs.Values.{Which, overlapping, plain, leftmost, Outcome, gives, ends, refuses, number, answer}
 use Rattle.search.specs.Searches.{nextOf}
-use Rattle.search.specs.Claims.{RootIfLeftmost, SearchClaims, LeftmostClaims}
-use Rattle.search.proofs.Answering.{AfterEnd, Says, says, nine-told, ten-told, eleven-told, end-told}
+use Rattle.search.specs.Claims.{RootIfLeftmost, RootAfterMatch, SearchClaims, LeftmostClaims}
+use Rattle.search.proofs.Answering.{AfterMatch, AfterEnd, Says, says, nine-told, ten-told, eleven-told, end-told}
 
 -- ---- one answer only
 
@@ -40,7 +40,12 @@ back-answer (answers.Match m u) = refl
 back-answer (answers.End u) = refl
 back-answer (answers.Refused why u) = rw back-number
 
--- ---- the end
+-- ---- a match, and the end
+
+match-leaves : (w : Which) (m : Match) (u : Search) → AfterMatch w m u → (u .place ≡ m .end) × RootAfterMatch w u
+match-leaves overlapping m u A = (A, tt)
+match-leaves plain m u A = (A .0, (A .1, A .2))
+match-leaves leftmost m u A = (ap (λ (x : Search). x .place) A, (ap (λ (x : Search). x .state .0) A, ap (λ (x : Search). x .output) A))
 
 end-leaves : (w : Which) (text : List ℕ) (u : Search) → AfterEnd w text u → (u .place ≡ length text) × (u .output ≡ 0) × RootIfLeftmost w u
 end-leaves overlapping text u A = (A .0, A .1, tt)
@@ -61,6 +66,7 @@ claims w T kind text v =
       nine = ((λ e. told w T kind text v (refuses 9 v) e .1 .nine refl), nine-told w T kind text v);
       ten = ((λ e. told w T kind text v (refuses 10 v) e .1 .ten refl), λ q. ten-told w T kind text v (q .0) (q .1));
       eleven = ((λ e. told w T kind text v (refuses 11 v) e .1 .eleven refl), λ q. eleven-told w T kind text v (q .0) (q .1) (q .2));
+      at-match = λ m u e. match-leaves w m u (told w T kind text v (gives m u) e);
       at-end = λ u e. end-leaves w text u (told w T kind text v (ends u) e .2);
       end-again = λ u e. let S = told w T kind text v (ends u) e in end-told w T kind text u (S .0) (S .1) (S .2);
     }
@@ -70,5 +76,4 @@ leftmost-claims T kind text v =
     record {
       no-moves-given = λ m u e. ap (λ (x : Search). x .moves) (told leftmost T kind text v (gives m u) e);
       no-moves-ended = λ u e. ap (λ (x : Search). x .moves) (told leftmost T kind text v (ends u) e .2);
-      goes-on = λ m u e. let A = told leftmost T kind text v (gives m u) e in (ap (λ (x : Search). x .place) A, ap (λ (x : Search). x .state .0) A);
     }

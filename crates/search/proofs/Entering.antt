@@ -11,7 +11,7 @@ use Rattle.paper.proofs.Tests.{test, clash, or-left, or-right, and-left, and-ri
 use Rattle.list.specs.Limits.{lastKind, mostText}
 use Rattle.list.specs.Refusals.{lowest}
 use Rattle.table.specs.Agrees.{Tables, Rooms}
-use Rattle.table.proofs.Columns.{under}
+use Rattle.table.proofs.Claims as readers
 use Rattle.search.specs.declared.Search.{Search}
 use Rattle.search.specs.Values.{Which, overlapping, plain, leftmost, refuses}
 use Rattle.search.specs.Admission.{otherKind, cellSlots}
@@ -104,7 +104,7 @@ at-most n = omega arith
 ready : (T : Tables) (kind size : ℕ) (v : Search) → (ShowsAtFirst T kind size v → ⊥) → Ready T size v
 ready T kind size v n =
     let columns
-    = under (T .cells) (length (T .base)) (length (T .link)) (length (T .output)) (length (T .check)) (length (T .depth))
+    = readers.claims .in-columns (T .cells) (length (T .base)) (length (T .link)) (length (T .output)) (length (T .check)) (length (T .depth))
     (at-most (λ h. n (cells-above-slots h))) in
     record {
       rooms = record {

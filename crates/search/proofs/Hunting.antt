@@ -8,7 +8,7 @@ use native.Mathlib.Omega.{arith}
 use lib.Bits.{bitXor}
 use lib.Dec.{eqb, ltb}
 use lib.ListN.{length, getD}
-use Rattle.paper.proofs.Tests.{test, clash, eqb-ne, ne-eqb, ltb-lt, ltb-le}
+use Rattle.paper.proofs.Tests.{not-true→false, test, clash, eqb-ne, ne-eqb, ltb-lt, ltb-le}
 use Rattle.table.specs.Readers.{there}
 use Rattle.table.specs.Agrees.{Tables, Rooms, probeIn, linkIn}
 use Rattle.table.specs.Claims.{LinksTo}
@@ -17,7 +17,6 @@ use Rattle.table.specs.declared.Found.{Found}
 use Rattle.table.specs.declared.Found.the-variants as found
 use Rattle.table.specs.declared.Linked.{Linked}
 use Rattle.table.specs.declared.Linked.the-variants as linked
-use Rattle.table.proofs.Inside.{there-yes, there-past, there-below}
 use Rattle.table.proofs.Claims as readers
 use Rattle.search.specs.declared.walk.Taken.{Taken}
 use Rattle.search.specs.declared.walk.Taken.the-variants as taken
@@ -43,6 +42,13 @@ targetIn T s = getD (T .link) s 0
 abbrev pub depthIn : Tables → ℕ → ℕ
 depthIn T s = getD (T .depth) s 0
 
+-- what is there is one of the cells, and what is past them is not there
+there-below : (cells slots i : ℕ) → there cells slots i ≡ true → i < cells
+there-below cells slots i e = readers.claims .is-there cells slots i .0 e .0
+
+not-there : (cells slots i : ℕ) → cells ≤ i → there cells slots i ≡ false
+not-there cells slots i h = not-true→false (there cells slots i) (λ e. omega (arith, there-below cells slots i e))
+
 module _ (T : Tables) where
   -- a child that is found is a cell
   child-below : (s c : ℕ) (t : CellId) → probeIn T s c ≡ found.At t → t .0 < T .cells
@@ -64,7 +70,7 @@ module _ (T : Tables) where
   damage-probe : (s c : ℕ) → (getD (T .base) s 0 ≡ 0 → ⊥) → T .cells ≤ childIn T s c → probeIn T s c ≡ found.Damage
   damage-probe s c b h =
       readers.claims .damaged (T .base) (T .check) (T .cells) s c .1
-      (inr (b, sym (there-past (T .cells) (length (T .check)) (childIn T s c) h)))
+      (inr (b, not-there (T .cells) (length (T .check)) (childIn T s c) h))
 
   -- a link that leads nowhere tells damage
   not-linked : (s : ℕ) → ((t : ℕ) → LinksTo (T .link) (T .depth) (T .cells) s t → ⊥) → linkIn T s ≡ linked.Damage
@@ -85,7 +91,7 @@ module _ (T : Tables) where
   module _ (R : Rooms T) where
     -- a cell is there in a column with room
     inside : (i slots : ℕ) → i < T .cells → T .cells ≤ slots → there (T .cells) slots i ≡ true
-    inside i slots h room = sym (there-yes (T .cells) slots i h (omega arith))
+    inside i slots h room = readers.claims .is-there (T .cells) slots i .1 (h, omega arith)
 
     -- what is not there is past the cells
     past : (i slots : ℕ) → T .cells ≤ slots → there (T .cells) slots i ≡ false → T .cells ≤ i

@@ -13,7 +13,6 @@ use Rattle.table.specs.declared.CellId.{CellId}
 use Rattle.table.specs.declared.Begins.{Begins}
 use Rattle.table.specs.declared.Begins.the-variants as begins
 use Rattle.table.specs.declared.Shown.the-variants as shown
-use Rattle.table.proofs.Inside.{there-yes}
 use Rattle.table.proofs.Claims as readers
 use Rattle.search.specs.declared.Search.{Search}
 use Rattle.search.specs.declared.walk.Taken.{Taken}
@@ -63,7 +62,7 @@ module _ (T : Tables) (R : Rooms T) (falling : Bool) where
   begins-told : (s : CellId) → s .0 < T .cells → beginsIn falling T s ≡ begins.Damage → ⊥
   begins-told s h =
       test (falling && eqb (s .0) root) (λ z. rw z (λ e. never (cc)))
-      (λ z. rw z (λ e. clash (sym (there-yes (T .cells) (length (T .output)) (s .0) h (omega (arith, R .output-room))))
+      (λ z. rw z (λ e. clash (readers.claims .is-there (T .cells) (length (T .output)) (s .0) .1 (h, omega (arith, R .output-room)))
       (readers.claims .astray (T .output) (T .cells) (s .0) .0 e)))
 
   pub steps : (v : Search) (c : ℕ) → v .state .0 < T .cells → Steps falling T v c

@@ -25,6 +25,12 @@ RootIfLeftmost overlapping u = Unit {0}
 RootIfLeftmost plain u = Unit {0}
 RootIfLeftmost leftmost u = u .state .0 ≡ root
 
+-- plain and leftmost search go on at root with no output to give
+abbrev pub RootAfterMatch : Which → Search → Type 0
+RootAfterMatch overlapping u = Unit {0}
+RootAfterMatch plain u = (u .state .0 ≡ root) × (u .output ≡ 0)
+RootAfterMatch leftmost u = (u .state .0 ≡ root) × (u .output ≡ 0)
+
 -- of the answer of a call
 pub record SearchClaims (w : Which) (T : Tables) (kind : ℕ) (text : List ℕ) (v : Search) : Type 0 where
   -- no second answer could meet the promise
@@ -37,6 +43,8 @@ pub record SearchClaims (w : Which) (T : Tables) (kind : ℕ) (text : List ℕ) 
   pub ten : (nextOf w T kind text v ≡ refuses 10 v) ↔ ((WrongKind w kind → ⊥) × (mostText < length text))
   -- 11: it isn't, and damage is met
   pub eleven : (nextOf w T kind text v ≡ refuses 11 v) ↔ ((WrongKind w kind → ⊥) × (length text ≤ mostText) × Damaged w T kind text v)
+  -- at a match the place is the match's end; plain and leftmost search are at root there with no output to give
+  pub at-match : (m : Match) (u : Search) → nextOf w T kind text v ≡ gives m u → (u .place ≡ m .end) × RootAfterMatch w u
   -- the end leaves the place at the text's end with no output to give, leftmost with state root
   pub at-end : (u : Search) → nextOf w T kind text v ≡ ends u → (u .place ≡ length text) × (u .output ≡ 0) × RootIfLeftmost w u
   -- a call on that value gives the end and the value again, unless it meets damage; so does every further one
@@ -46,5 +54,3 @@ pub record SearchClaims (w : Which) (T : Tables) (kind : ℕ) (text : List ℕ) 
 pub record LeftmostClaims (T : Tables) (kind : ℕ) (text : List ℕ) (v : Search) : Type 0 where
   pub no-moves-given : (m : Match) (u : Search) → nextOf leftmost T kind text v ≡ gives m u → u .moves ≡ 0
   pub no-moves-ended : (u : Search) → nextOf leftmost T kind text v ≡ ends u → u .moves ≡ 0
-  -- it goes on from the match's end, at root
-  pub goes-on : (m : Match) (u : Search) → nextOf leftmost T kind text v ≡ gives m u → (u .place ≡ m .end) × (u .state .0 ≡ root)

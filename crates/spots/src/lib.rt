@@ -1,6 +1,7 @@
 // Inner: which cells are taken and which bases are used, in lent rows, and the hunt for a group's base (the crate's `BuildHelper`). A row
 // of a taken cell says how many cells from it on are taken for certain, so that the look for a vacant cell passes them at once. Cells only
 // become taken, so what a row says stays true.
+use list::limits::BLOCK;
 use trie::TrieId;
 ghost use mathlib.Core.Path.{_≡_};
 ghost use mathlib.Core.Bool.{not};
@@ -142,7 +143,7 @@ pub fn unused_base(spots: &[[u32; 2]], from: u32) -> Base
     requires { ⌜ (from + block ≤ length (now spots)) × (from < mostCells) ⌝ }
     ensures { λ r. ⌜ based r ≡ firstWhere (λ (b : ℕ). eqb (field (now (spots .entry)) b 1) 0) from block ⌝ }
 {
-    let end = from + 256;
+    let end = from + BLOCK;
     let mut b = from;
     while b < end {
         if is_used(spots, b) {

@@ -20,6 +20,7 @@ use Rattle.table.specs.declared.Begins.{Begins}
 use Rattle.table.specs.declared.Begins.the-variants as begins
 use Rattle.table.specs.declared.Shown.{Shown}
 use Rattle.table.specs.declared.Shown.the-variants as shown
+use Rattle.table.proofs.Columns.{under}
 use Rattle.table.proofs.Inside.{there-yes, there-below, there-in, can-yes, can-some, can-fit}
 
 -- whether something is found, and where
@@ -324,6 +325,9 @@ module _ (outs : List (List ℕ)) (accepted place end : ℕ) where
 pub claims : ReaderClaims
 claims =
     record {
+      is-there = λ cells slots i.
+          ((λ e. (there-below cells slots i e, there-in cells slots i e)), λ h. sym (there-yes cells slots i (h .0) (h .1)));
+      in-columns = under;
       finds = λ base check cells s c t. (found-is base check cells s c t, is-found base check cells s c t);
       childless = childless;
       damaged = λ base check cells s c. (damage-is base check cells s c, is-damage base check cells s c);

@@ -4,13 +4,7 @@ use native.Mathlib.Omega.{arith}
 use Rattle.list.specs.Limits.{smaller}
 use Rattle.list.proofs.Slots.{smaller-left, smaller-right}
 use Rattle.table.specs.Slots.{columnSlots}
-
-pub record Under (n base link output check depth : ℕ) : Type 0 where
-  pub in-base : n ≤ base
-  pub in-link : n ≤ link
-  pub in-output : n ≤ output
-  pub in-check : n ≤ check
-  pub in-depth : n ≤ depth
+use Rattle.table.specs.Claims.{Under}
 
 pub under : (n base link output check depth : ℕ) → n ≤ columnSlots base link output check depth → Under n base link output check depth
 under n base link output check depth h =

@@ -7,11 +7,20 @@ use Prim.Native.Nat.{ℕ, _-_, _≤_, _<_}
 use lib.Bits.{bitXor}
 use lib.ListN.{length, getD}
 use Rattle.zeros.specs.Rows.{field}
+use Rattle.table.specs.Slots.{columnSlots}
 use Rattle.table.specs.Readers.{there, probeOf, linkOf, placeOf, outputOf}
 use Rattle.table.specs.declared.Found.the-variants as found
 use Rattle.table.specs.declared.Linked.the-variants as linked
 use Rattle.table.specs.declared.Begins.the-variants as begins
 use Rattle.table.specs.declared.Shown.the-variants as shown
+
+-- so many cells lie within each column
+pub record Under (n base link output check depth : ℕ) : Type 0 where
+  pub in-base : n ≤ base
+  pub in-link : n ≤ link
+  pub in-output : n ≤ output
+  pub in-check : n ≤ check
+  pub in-depth : n ≤ depth
 
 -- the state is a cell with a base other than 0, t is that base xor the byte, t is a cell, and its check is the byte
 pub record ChildAt (base check : List ℕ) (cells s c t : ℕ) : Type 0 where
@@ -63,6 +72,10 @@ BrokenAt outs accepted place end =
 
 -- what is proved of the readers
 pub record ReaderClaims : Type 0 where
+  -- a cell of a column is there exactly if it is one of the cells in use and the column has it
+  pub is-there : (cells slots i : ℕ) → (there cells slots i ≡ true) ↔ ((i < cells) × (i < slots))
+  -- what lies within the slots of the cells lies within each column
+  pub in-columns : (n base link output check depth : ℕ) → n ≤ columnSlots base link output check depth → Under n base link output check depth
   -- a probe finds t exactly if t is the state's child on the byte
   pub finds : (base check : List ℕ) (cells s c t : ℕ) → (probeOf base check cells s c ≡ found.At (record { 0 = t })) ↔ ChildAt base check cells s c t
   -- from base 0 nothing is found, whatever the other cells hold

@@ -1,6 +1,4 @@
 -- `fill` stores the outputs, and writes the cells with the places that they got.
-use mathlib.Core.Path.{_≡_, refl, _∙_}
-use native.Mathlib.Omega.{arith}
 use Rattle.whole.specs.Whole.{layoutOf}
 use Rattle.build.proofs.Phasing.{writable, filled}
 use borrow.Author.Needs.{needs}
@@ -60,7 +58,7 @@ same-length-7 c = search needs
 returns : tie.Need-returns
 returns c = λ kind es F.
     let P = c .before .before .before .before .before .before .before .before .before .before .before .before .before .before .before .before .before .before .before .store-outputs .ensures kind es (F .tabled) in
-    filled F P refl (c .before .before .before .before .before .before .before .before .before .before .write-cells .ensures es _ _ _ (writable F P (c .before .before .before .before .before .before .before .before .before .before .before .before .before .before .before .before .before .before .before .store-outputs .kept .1 .1 .0)) (F .blanks))
+    filled F P (c .before .before .before .before .before .before .before .before .before .before .write-cells .ensures es _ _ _ (writable F P (c .before .before .before .before .before .before .before .before .before .before .before .before .before .before .before .before .before .before .before .store-outputs .kept .1 .1 .0)) (F .blanks))
 
 pub fill-spec : {M : Type 1} → statement M
 fill-spec =
