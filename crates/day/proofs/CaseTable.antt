@@ -1,51 +1,176 @@
--- The case table by computing.
-use mathlib.Core.Path.{refl}
+-- The case table: the counts by computing, the matches and the moves from the end-to-end statements and the lists and walks, which compute.
+use mathlib.Core.Path.{_≡_, refl, sym, ap, _∙_}
+use mathlib.Core.Bool.{Bool, true, _&&_}
+use mathlib.Core.List.{List, [], _∷_, _++_, map, List·Memᴰ, List·Memᴰ·head, List·Memᴰ·tail, nil≢cons}
+use Prim.Native.Nat.{ℕ, zero, suc}
+use native.Mathlib.Omega.{arith}
+use lib.Dec.{ltb, leb}
+use lib.ListN.{length, take, replicate}
 use Rattle.paper.specs.Lists.{same, prefix, those, each}
-use Rattle.paper.specs.Patterns.{rowsFrom, barred, keep, accepted}
-use Rattle.paper.specs.Automaton.{isState, ownOf, longestState, failure, begins, before, isDead, link}
+use Rattle.paper.specs.Patterns.{Choice, longest, first, rowsFrom, barred, keep, accepted}
+use Rattle.paper.specs.Matches.{Match, withPayloads, occurs, startingAt, between, endingAt, byEnd, byLength, byRow, apart, overlapping, plain, leftmostBy}
+use Rattle.paper.specs.Automaton.{isState, ownOf, longestState, failure, begins, before, isDead, link, hunt, chain, step, walk}
+use Rattle.paper.specs.Cases.{bytes, paperList, list1, values3, short-first, long-first, twins}
+use Rattle.paper.proofs.Tests.{and-left, and-right, ltb-lt, leb-le}
+use Rattle.list.specs.Limits.{alphabet, mostText}
+use Rattle.list.specs.Claims.{Bytes}
 use Rattle.list.specs.Refusals.{lowest}
 use Rattle.list.specs.Listed.{patternsFrom, falls, lastFrom, refusals}
-use Rattle.list.specs.Listed as listed
+use Rattle.list.specs.Listed as listing
 use Rattle.plan.specs.Names.{has, made, along, namesFrom, rootAndDead, names}
-use Rattle.plan.specs.Breadth.{kidBytes, kids, below, level, breadth}
-use Rattle.plan.specs.Outputs.{piled, store, storeAll}
+use Rattle.plan.specs.Breadth.{kidBytes, kids}
 use Rattle.plan.specs.Groups.{joined, groupsFrom, groups}
-use Rattle.plan.specs.Placement.{anyOf, allOf, sits, takenCell, usedBase, fits, firstWhere, look, place, placeTasks, baseIn}
-use Rattle.plan.specs.Placement.{cellFrom, childAt, ownerIn, ownerOf}
-use Rattle.plan.specs.Cells.{unusedIn, spareCheck, lastByte, checkOf, cellAt, cells}
-use Rattle.table.specs.Readers.{probeOf, linkOf, placeOf, outputOf}
-use Rattle.whole.specs.Refusing.{tableRefusals, allRefusals}
+use Rattle.plan.specs.Placement.{anyOf, allOf, sits, takenCell, usedBase, fits, firstWhere, look, place, placeTasks}
+use Rattle.whole.specs.Refusing.{Lent, tableRefusals, allRefusals}
 use Rattle.whole.proofs.Cases.{cases}
+use Rattle.build.specs.Outcome as build
 use Rattle.build.specs.Outcome.{outcomeOf}
-use Rattle.search.specs.Walk.{takeOf, stepOf}
-use Rattle.search.specs.Searches.{seekOf, keepOf, nextOf}
-use Rattle.meaning.specs.Repeated.{answers}
-use Rattle.day.specs.CaseTable.{CaseTable}
+use Rattle.search.specs.Values as search
+use Rattle.search.specs.Values.{Which, Outcome, gives, ends, refuses}
+use Rattle.meaning.specs.Repeated.{Saying, match, end, refusal, said, thenEnd}
+use Rattle.meaning.specs.Demands.{valueIn, kindNumber, walkMoves, plainMoves, noMoves, HasTaken, StandardDemands, LeftmostDemands}
+use Rattle.day.specs.EndToEnd.{searches, listed}
+use Rattle.day.specs.CaseTable.{Input, under, endsFrom, slots, Builds, good, BuildOf, calls, lastMoves, Case, three, CaseTable}
+use Rattle.day.specs.CaseTable as table
+use Rattle.day.proofs.EndToEnd as day
+
+-- ---- bytes
+
+allBytes : List ℕ → Bool
+allBytes [] = true
+allBytes (c ∷ s) = ltb c alphabet && allBytes s
+
+all-bytes : (s : List ℕ) → allBytes s ≡ true → Bytes s
+unfolding allBytes
+all-bytes [] h k = omega arith
+all-bytes (c ∷ s) h zero = ltb-lt c alphabet (and-left (ltb c alphabet) (allBytes s) h)
+all-bytes (c ∷ s) h (suc k) = all-bytes s (and-right (ltb c alphabet) (allBytes s) h) k
+
+-- ---- a build's answer
+
+-- what the definition answers is what is promised
+builds : (i : Input) (lent : Lent) (o : build.Outcome)
+    → outcomeOf (i .kind) (table.joined (i .patterns)) (endsFrom 0 (i .patterns)) (i .values) lent ≡ o
+    → Builds i lent o
+builds i lent o e before after r at P =
+    P .answered ∙ P .outcome-is ∙ ap (outcomeOf (i .kind) (table.joined (i .patterns)) (endsFrom 0 (i .patterns)) (i .values)) at ∙ e
+
+-- ---- the matches and then the end
+
+then-end : (k : ℕ) (l : List (Match ℕ)) → take (suc (length l)) (map match l ++ replicate (suc k) end) ≡ map match l ++ (end ∷ [])
+then-end k [] = refl
+then-end k (m ∷ l) = ap (λ (r : List Saying). match m ∷ r) (then-end k l)
+
+others : List Saying → List Saying
+others [] = []
+others (s ∷ l) = l
+
+some-left : (l : List (Match ℕ)) → [] ≡ map match l ++ (end ∷ []) → ⊥
+some-left [] e = nil≢cons e
+some-left (m ∷ l) e = nil≢cons e
+
+firstSaid : List Saying → ℕ
+firstSaid [] = 0
+firstSaid (match m ∷ l) = 1
+firstSaid (end ∷ l) = 2
+firstSaid (refusal n ∷ l) = 3
+
+-- the moves at the end, if each answer has the moves of what it has taken
+end-moves : (moves : List ℕ → ℕ) (text : List ℕ) (os : List Outcome) (l : List (Match ℕ)) → map said os ≡ map match l ++ (end ∷ [])
+    → ((o : Outcome) → List·Memᴰ o os → HasTaken moves text o)
+    → lastMoves os ≡ moves text
+unfolding others firstSaid
+end-moves moves text [] l e f = absurd (some-left l e)
+end-moves moves text (o ∷ []) (m ∷ l) e f = absurd (some-left l (ap others e))
+end-moves moves text (ends u ∷ []) [] e f = f (ends u) (List·Memᴰ·head refl) .1
+end-moves moves text (gives m u ∷ []) [] e f = absurd (omega (arith, ap firstSaid e))
+end-moves moves text (refuses n u ∷ []) [] e f = absurd (omega (arith, ap firstSaid e))
+end-moves moves text (o ∷ p ∷ os) [] e f = absurd (nil≢cons (sym (ap others e)))
+end-moves moves text (o ∷ p ∷ os) (m ∷ l) e f = end-moves moves text (p ∷ os) l (ap others e) (λ q k. f q (List·Memᴰ·tail k))
+
+-- ---- a case from what is proved of all lists and texts
+
+module _ (w : Which) (i : Input) (text : List ℕ) (accepted states : ℕ) (matches : List (Match ℕ)) (moves : ℕ) (count : List ℕ → ℕ)
+    (built : outcomeOf (i .kind) (table.joined (i .patterns)) (endsFrom 0 (i .patterns)) (i .values) (slots (suc states) 256 accepted) ≡ good i accepted states 256)
+    (counted : count text ≡ moves)
+    (says : (b : BuildOf i) (n : ℕ) → map said (calls i b w text n) ≡ thenEnd n matches)
+    (taken : (b : BuildOf i) (n : ℕ) (o : Outcome) → List·Memᴰ o (calls i b w text n) → HasTaken count text o) where
+  said-all : (b : BuildOf i) → map said (calls i b w text (suc (length matches))) ≡ map match matches ++ (end ∷ [])
+  said-all b = says b (suc (length matches)) ∙ then-end (length matches) matches
+
+  a-case : Case w i text accepted states matches moves
+  a-case =
+      record {
+        built = builds i (slots (suc states) 256 accepted) (good i accepted states 256) built;
+        says = said-all;
+        moved = λ b. end-moves count text (calls i b w text (suc (length matches))) matches (said-all b) (taken b (suc (length matches))) ∙ counted;
+      }
+
+-- ---- the three searches
+
+module _ (ps : List (List ℕ)) (values text : List ℕ) (B : allBytes (table.joined ps) ≡ true) (C : allBytes text ≡ true) (short : leb (length text) mostText ≡ true)
+    (accepted states : ℕ) (matches : List (Match ℕ)) (moves : ℕ) where
+  by-overlapping : outcomeOf 0 (table.joined ps) (endsFrom 0 ps) values (slots (suc states) 256 accepted) ≡ good (under 0 ps values) accepted states 256
+      → withPayloads (valueIn values) (overlapping (listed (table.joined ps) (endsFrom 0 ps)) text) ≡ matches
+      → walkMoves (listed (table.joined ps) (endsFrom 0 ps)) text ≡ moves
+      → Case search.overlapping (under 0 ps values) text accepted states matches moves
+  by-overlapping built list counted =
+      a-case search.overlapping (under 0 ps values) text accepted states matches moves (walkMoves (listed (table.joined ps) (endsFrom 0 ps))) built counted
+      (λ b n. D b .overlapping-says n ∙ ap (thenEnd n) list) (λ b. D b .overlapping-moves)
+    where
+      D : (b : BuildOf (under 0 ps values)) → StandardDemands (searches b text) (listed (table.joined ps) (endsFrom 0 ps)) values text
+      D b = day.claims .standard-day (table.joined ps) (endsFrom 0 ps) values text b (all-bytes (table.joined ps) B) (all-bytes text C) (leb-le (length text) mostText short) .demands
+
+  by-plain : outcomeOf 0 (table.joined ps) (endsFrom 0 ps) values (slots (suc states) 256 accepted) ≡ good (under 0 ps values) accepted states 256
+      → withPayloads (valueIn values) (plain (listed (table.joined ps) (endsFrom 0 ps)) text) ≡ matches
+      → plainMoves (listed (table.joined ps) (endsFrom 0 ps)) text ≡ moves
+      → Case search.plain (under 0 ps values) text accepted states matches moves
+  by-plain built list counted =
+      a-case search.plain (under 0 ps values) text accepted states matches moves (plainMoves (listed (table.joined ps) (endsFrom 0 ps))) built counted
+      (λ b n. D b .plain-says n ∙ ap (thenEnd n) list) (λ b. D b .plain-moves)
+    where
+      D : (b : BuildOf (under 0 ps values)) → StandardDemands (searches b text) (listed (table.joined ps) (endsFrom 0 ps)) values text
+      D b = day.claims .standard-day (table.joined ps) (endsFrom 0 ps) values text b (all-bytes (table.joined ps) B) (all-bytes text C) (leb-le (length text) mostText short) .demands
+
+  -- leftmost search reports no moves
+  by-leftmost : (c : Choice)
+      → outcomeOf (kindNumber c) (table.joined ps) (endsFrom 0 ps) values (slots (suc states) 256 accepted) ≡ good (under (kindNumber c) ps values) accepted states 256
+      → withPayloads (valueIn values) (leftmostBy c (listed (table.joined ps) (endsFrom 0 ps)) text) ≡ matches
+      → 0 ≡ moves
+      → Case search.leftmost (under (kindNumber c) ps values) text accepted states matches moves
+  by-leftmost c built list counted =
+      a-case search.leftmost (under (kindNumber c) ps values) text accepted states matches moves noMoves built counted
+      (λ b n. D b .leftmost-says n ∙ ap (thenEnd n) list) (λ b. D b .leftmost-moves)
+    where
+      D : (b : BuildOf (under (kindNumber c) ps values)) → LeftmostDemands (searches b text) c (listed (table.joined ps) (endsFrom 0 ps)) values text
+      D b = day.claims .leftmost-day c (table.joined ps) (endsFrom 0 ps) values text b (all-bytes (table.joined ps) B) (all-bytes text C) (leb-le (length text) mostText short) .demands
+
+-- ---- the table
 
 pub case-table : CaseTable
-unfolding same prefix those each rowsFrom barred keep accepted isState ownOf longestState failure begins before isDead link
-    lowest patternsFrom falls lastFrom refusals listed.firstWhere
-    has made along namesFrom rootAndDead names kidBytes kids below level breadth piled store storeAll joined groupsFrom groups
-    anyOf allOf sits takenCell usedBase fits firstWhere look place placeTasks baseIn cellFrom childAt ownerIn ownerOf
-    unusedIn spareCheck lastByte checkOf cellAt cells
-    probeOf linkOf placeOf outputOf tableRefusals allRefusals outcomeOf takeOf stepOf seekOf keepOf nextOf answers
+unfolding same prefix those each rowsFrom barred keep accepted isState ownOf longestState failure begins before isDead link hunt chain step walk
+    occurs startingAt between endingAt byEnd byLength byRow apart overlapping plain leftmostBy
+    lowest patternsFrom falls lastFrom refusals listing.firstWhere
+    has made along namesFrom rootAndDead names kidBytes kids joined groupsFrom groups
+    anyOf allOf sits takenCell usedBase fits firstWhere look place placeTasks
+    tableRefusals allRefusals outcomeOf allBytes
 case-table =
     record {
-      p1 = refl;
+      p1 = builds three (slots 7 256 3) (good three 3 6 256) refl;
       p1-list = refl;
       p1-cells = cases;
-      p2 = record { built = refl; says = refl; moved = refl };
-      p3 = record { built = refl; says = refl; moved = refl };
-      p4 = record { built = refl; says = refl; moved = refl };
-      p5 = record { built = refl; says = refl; moved = refl };
-      p6-longest = record { built = refl; says = refl; moved = refl };
-      p6-first = record { built = refl; says = refl; moved = refl };
-      p7 = record { built = refl; says = refl; moved = refl };
-      p8 = record { built = refl; says = refl; moved = refl };
-      p8-longest = record { built = refl; says = refl; moved = refl };
-      p8-first = record { built = refl; says = refl; moved = refl };
-      p9 = record { built = refl; says = refl; moved = refl };
-      edge-bytes = refl;
-      edge-listed = refl;
-      edge-cells = refl;
+      p2 = by-plain list1 values3 (bytes "abcd") refl refl refl _ _ _ _ refl refl refl;
+      p3 = by-overlapping list1 values3 (bytes "abcd") refl refl refl _ _ _ _ refl refl refl;
+      p4 = by-overlapping paperList (0 ∷ 1 ∷ 2 ∷ 3 ∷ []) (bytes "ushers") refl refl refl _ _ _ _ refl refl refl;
+      p5 = by-overlapping (bytes "aa" ∷ []) (0 ∷ []) (bytes "aax") refl refl refl _ _ _ _ refl refl refl;
+      p6-longest = by-leftmost short-first (0 ∷ 1 ∷ []) (bytes "T100") refl refl refl _ _ _ _ longest refl refl refl;
+      p6-first = by-leftmost short-first (0 ∷ 1 ∷ []) (bytes "T100") refl refl refl _ _ _ _ first refl refl refl;
+      p7 = by-leftmost long-first (0 ∷ 1 ∷ []) (bytes "T100") refl refl refl _ _ _ _ first refl refl refl;
+      p8 = by-overlapping twins (5 ∷ 7 ∷ []) (bytes "ab") refl refl refl _ _ _ _ refl refl refl;
+      p8-longest = by-leftmost twins (5 ∷ 7 ∷ []) (bytes "ab") refl refl refl _ _ _ _ longest refl refl refl;
+      p8-first = by-leftmost twins (5 ∷ 7 ∷ []) (bytes "ab") refl refl refl _ _ _ _ first refl refl refl;
+      p9 = by-overlapping [] [] [] refl refl refl _ _ _ _ refl refl refl;
+      edge-bytes = builds (under 0 (replicate 65 97 ∷ []) (0 ∷ [])) (slots 70000 70000 70000) (build.refused (record { number = 5; index = 0 })) refl;
+      edge-listed = builds (under 0 (replicate 1025 (bytes "a")) (replicate 1025 0)) (slots 70000 70000 70000) (build.refusal 3) refl;
+      edge-cells = builds three (slots 70000 255 70000) (build.refusal 7) refl;
     }

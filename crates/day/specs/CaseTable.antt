@@ -1,5 +1,5 @@
--- Document 01's case table as one statement, over what a build and the searches are defined to answer. All of it computes. Its proof is
--- `case-table` in ../proofs.
+-- Document 01's case table as one statement: what a build of each list answers with exactly the slots that it needs, and what a search says over the tables
+-- that any good build of it left. Build and searches stand here by what their code promises. Its proof is `case-table` in ../proofs.
 use mathlib.Core.Path.{_≡_}
 use mathlib.Core.List.{List, [], _∷_, _++_, map}
 use Prim.Native.Nat.{ℕ, suc, _+_}
@@ -7,17 +7,17 @@ use lib.ListN.{length, replicate}
 use Rattle.paper.specs.Patterns.{Entry, rows}
 use Rattle.paper.specs.Matches.{Match}
 use Rattle.paper.specs.Cases.{bytes, at, paperList, list1, values3, short-first, long-first, twins}
-use Rattle.list.specs.Kinds.{kindOf}
-use Rattle.table.specs.Agrees.{Tables}
 use Rattle.nfa.specs.Grown.{acceptedOf}
-use Rattle.whole.specs.Whole.{tablesOf}
 use Rattle.whole.specs.Refusing.{Lent}
 use Rattle.whole.specs.Cases.{WholeCases}
+use Rattle.build.specs.Lot.{Lot, slotsOf}
 use Rattle.build.specs.Outcome as build
-use Rattle.build.specs.Outcome.{made, refused, refusal, outcomeOf}
+use Rattle.build.specs.Outcome.{made, refused, refusal}
+use Rattle.build.specs.Promise.{Promise}
+use Rattle.build.specs.declared.Built.{Built}
 use Rattle.search.specs.Values.{Which, overlapping, plain, leftmost, Outcome, begun}
-use Rattle.search.specs.Searches.{nextOf}
 use Rattle.meaning.specs.Repeated.{match, end, handedBack, answers, said}
+use Rattle.day.specs.EndToEnd.{GoodBuild, searches}
 
 -- ---- what is handed to a build
 
@@ -45,15 +45,13 @@ endsFrom a (p ∷ ps) = (a + length p) ∷ endsFrom (a + length p) ps
 abbrev pub slots : ℕ → ℕ → ℕ → Lent
 slots states cells outputs = record { states = states; cells = cells; outputs = outputs }
 
--- more of each than any list needs
-abbrev pub ample : Lent
-ample = slots 70000 70000 70000
-
 -- ---- what is answered
 
--- the answer of a build
-abbrev pub builds : Input → Lent → build.Outcome
-builds i lent = outcomeOf (i .kind) (joined (i .patterns)) (endsFrom 0 (i .patterns)) (i .values) lent
+-- a build of this input with so many slots answers this, whatever else the lent tables are
+abbrev pub Builds : Input → Lent → build.Outcome → Type 0
+Builds i lent o = (before after : Lot) (r : Built) → slotsOf before ≡ lent
+    → Promise (i .kind) (joined (i .patterns)) (endsFrom 0 (i .patterns)) (i .values) before after r
+    → build.answer r ≡ o
 
 -- a good one: so many accepted patterns, states and cells
 abbrev pub good : Input → ℕ → ℕ → ℕ → build.Outcome
@@ -63,13 +61,13 @@ good i accepted states cells = made (record { kind = i .kind; accepted = accepte
 abbrev pub accepts : Input → List Entry
 accepts i = acceptedOf (i .kind) (joined (i .patterns)) (endsFrom 0 (i .patterns))
 
--- the tables that it leaves in a block of cell slots and a slot for each output
-abbrev pub tables : Input → Tables
-tables i = tablesOf (kindOf (i .kind)) (accepts i) (i .values) (record { base = 256; link = 256; output = 256; check = 256; depth = 256; outs = length (accepts i) })
+-- any good build of this input, with any tables at entry
+abbrev pub BuildOf : Input → Type 0
+BuildOf i = GoodBuild (i .kind) (joined (i .patterns)) (endsFrom 0 (i .patterns)) (i .values)
 
--- the answers of so many calls of a search over them, the first on a fresh value
-abbrev pub calls : Which → Input → List ℕ → ℕ → List Outcome
-calls w i text n = answers (nextOf w (tables i) (i .kind) text) n begun
+-- the answers of so many calls of a search over the tables that it left, the first on a fresh value
+abbrev pub calls : (i : Input) → BuildOf i → Which → List ℕ → ℕ → List Outcome
+calls i b w text n = answers (searches b text w) n begun
 
 -- the moves in the last of some answers
 abbrev pub lastMoves : List Outcome → ℕ
@@ -77,11 +75,14 @@ lastMoves [] = 0
 lastMoves (o ∷ []) = handedBack o .moves
 lastMoves (o ∷ p ∷ os) = lastMoves (p ∷ os)
 
--- the build is good with these counts, in one block; the search says these matches and then the end; and the end has these moves
+-- a case: its counts, the matches that a search says, and the moves at the end
 pub record Case (w : Which) (i : Input) (text : List ℕ) (accepted states : ℕ) (matches : List (Match ℕ)) (moves : ℕ) : Type 0 where
-  pub built : builds i ample ≡ good i accepted states 256
-  pub says : map said (calls w i text (suc (length matches))) ≡ map match matches ++ (end ∷ [])
-  pub moved : lastMoves (calls w i text (suc (length matches))) ≡ moves
+  -- with exactly the slots that it needs, dead counted among the states, the build is good with these counts, in one block
+  pub built : Builds i (slots (suc states) 256 accepted) (good i accepted states 256)
+  -- over the tables that any good build of it left, the search says these matches and then the end
+  pub says : (b : BuildOf i) → map said (calls i b w text (suc (length matches))) ≡ map match matches ++ (end ∷ [])
+  -- and the end has these moves
+  pub moved : (b : BuildOf i) → lastMoves (calls i b w text (suc (length matches))) ≡ moves
 
 -- ---- the table
 
@@ -92,7 +93,7 @@ three = under 0 list1 values3
 -- P1 to P9, each with the accepted patterns, the states, the matches as (start, end, value), and the moves, which leftmost search reports as 0
 pub record CaseTable : Type 0 where
   -- P1 bcd, ab, a: the counts; and the list as it was read is the one of which the cells and outputs are told
-  pub p1 : builds three ample ≡ good three 3 6 256
+  pub p1 : Builds three (slots 7 256 3) (good three 3 6 256)
   pub p1-list : accepts three ≡ rows list1
   pub p1-cells : WholeCases
   -- P2 the same, plain
@@ -115,7 +116,8 @@ pub record CaseTable : Type 0 where
   pub p8-first : Case leftmost (under 2 twins (5 ∷ 7 ∷ [])) (bytes "ab") 2 3 (at 0 2 5 ∷ []) 0
   -- P9 no patterns, no text
   pub p9 : Case overlapping (under 0 [] []) [] 0 1 [] 0
-  -- the edges that are refused: 65 bytes, 1,025 listed, 255 cells lent; the program `edges` runs them, and those that are accepted
-  pub edge-bytes : builds (under 0 (replicate 65 97 ∷ []) (0 ∷ [])) ample ≡ refused (record { number = 5; index = 0 })
-  pub edge-listed : builds (under 0 (replicate 1025 (bytes "a")) (replicate 1025 0)) ample ≡ refusal 3
-  pub edge-cells : builds three (slots 70000 255 70000) ≡ refusal 7
+  -- the edges that are refused, with more slots than any list needs but for the 255 cells: 65 bytes, 1,025 listed, 255 cells lent; the program `edges` runs
+  -- them, and those that are accepted
+  pub edge-bytes : Builds (under 0 (replicate 65 97 ∷ []) (0 ∷ [])) (slots 70000 70000 70000) (refused (record { number = 5; index = 0 }))
+  pub edge-listed : Builds (under 0 (replicate 1025 (bytes "a")) (replicate 1025 0)) (slots 70000 70000 70000) (refusal 3)
+  pub edge-cells : Builds three (slots 70000 255 70000) (refusal 7)
