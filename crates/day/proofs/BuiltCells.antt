@@ -1,13 +1,15 @@
 -- The columns that a good build left hold the fields of the build's cells, so the rules of the cells are rules of the columns.
 use mathlib.Core.Path.{_≡_, sym, ap, _∙_}
 use mathlib.Core.Bool.{true, false, true≢false}
-use mathlib.Core.List.{List}
+use mathlib.Core.List.{List, [], _∷_}
 use mathlib.Core.Logic.{_≢_, _↔_}
 use Prim.Native.Nat.{ℕ, _*_, _≤_, _<_}
 use native.Mathlib.Omega.{arith}
 use lib.Bits.{bitXor}
 use lib.ListN.{length, getD}
-use Rattle.paper.specs.Lists.{snoc}
+use lib.Seq.{ext-getD}
+use native.Mathlib.Nat.{zero-add}
+use Rattle.paper.specs.Lists.{snoc, each}
 use Rattle.paper.specs.Patterns.{Entry}
 use Rattle.paper.specs.Automaton.{isState}
 use Rattle.paper.proofs.Tests.{test, not-true→false}
@@ -17,6 +19,8 @@ use Rattle.list.specs.Kinds.{kindOf}
 use Rattle.list.specs.Claims.{Bytes, Sound}
 use Rattle.plan.specs.Placement.{Layout, vacant, usedBase, baseOf, cellOf}
 use Rattle.plan.specs.Cells.{Cell, Smallest}
+use Rattle.plan.specs.PlacementCases.{cell}
+use Rattle.plan.proofs.Scans.{each-length, each-get}
 use Rattle.plan.proofs.Machines.{machine-bounded}
 use Rattle.nfa.specs.Grown.{acceptedOf}
 use Rattle.nfa.proofs.Accepted.{within, fit}
@@ -33,9 +37,9 @@ use Rattle.whole.specs.CellRules.{nowhere, cellHeld, checkAlone, CellRules}
 use Rattle.whole.specs.Refusing.{Lent}
 use Rattle.whole.proofs.Slots.{column-at}
 use Rattle.whole.proofs.Claims as whole
-use Rattle.wipe.specs.Wiped.{blank}
+use Rattle.wipe.specs.Wiped.{blank, blankRows}
 use Rattle.build.specs.Outcome.{Outcome, made, countsOf, outcomeOf}
-use Rattle.build.specs.Promise.{left}
+use Rattle.build.specs.Promise.{left, outputRows}
 use Rattle.build.proofs.Claims.{good-told, answer-claims}
 use Rattle.day.specs.EndToEnd.{GoodBuild, tablesLeft}
 use Rattle.day.specs.BuiltCells.{IsState, cellLeft, baseLeft, UsedLeft, SmallestLeft, VacantLeft, BlankLeft, BuiltCells, BuiltCellsClaims}
@@ -103,6 +107,31 @@ module _ {kind : ℕ} {bytes ends values : List ℕ} (b : GoodBuild kind bytes e
   depth-slot : (j : ℕ) → j < l .blocks * block → getD (b .exit .depth) j 0 ≡ (cellHeld (kindOf kind) es j) .depth
   depth-slot = slot (λ x. x .depth) (b .exit .depth) (length (b .entry .depth))
       (good-left (b .entry .depth) (blank (b .entry .depth)) (column (λ x. x .depth) cs (length (b .entry .depth))) (b .promised .answered) (b .promised .depth-left))
+
+  -- the slots of a cell
+  pub cell-left : (j : ℕ) → j < l .blocks * block
+      → cell (getD (b .exit .base) j 0) (getD (b .exit .link) j 0) (getD (b .exit .output) j 0) (getD (b .exit .check) j 0) (getD (b .exit .depth) j 0)
+      ≡ cellHeld (kindOf kind) es j
+  cell-left j h =
+      λ i. record { base = base-slot j h i; link = link-slot j h i; output = output-slot j h i; check = check-slot j h i; depth = depth-slot j h i }
+
+  -- all cells, in their order
+  pub cells-left : (n : ℕ) → l .blocks * block ≡ n
+      → each 0 n
+      (λ j. cell (getD (b .exit .base) j 0) (getD (b .exit .link) j 0) (getD (b .exit .output) j 0) (getD (b .exit .check) j 0) (getD (b .exit .depth) j 0) ∷ [])
+      ≡ cs
+  cells-left n e =
+      ext-getD nowhere (each 0 n (λ j. f j ∷ [])) cs (each-length f 0 n ∙ sym e ∙ sym (R .blocks))
+      (λ j h.
+      let k : j < n = omega (arith, each-length f 0 n) in
+      each-get f 0 n j nowhere k ∙ ap f (zero-add j) ∙ cell-left j (omega arith))
+    where
+      f : ℕ → Cell
+      f j = cell (getD (b .exit .base) j 0) (getD (b .exit .link) j 0) (getD (b .exit .output) j 0) (getD (b .exit .check) j 0) (getD (b .exit .depth) j 0)
+
+  -- the rows of the outputs
+  pub outs-left : b .exit .outs ≡ outputRows (kindOf kind) es values (length (b .entry .outs))
+  outs-left = good-left (b .entry .outs) (blankRows 3 (b .entry .outs)) (outputRows (kindOf kind) es values (length (b .entry .outs))) (b .promised .answered) (b .promised .outs-left)
 
   -- a cell with a check alone is blank
   blank-slot : (j : ℕ) → j < l .blocks * block → cellHeld (kindOf kind) es j ≡ checkAlone ((cellHeld (kindOf kind) es j) .check) → BlankLeft b j

@@ -3,13 +3,13 @@
 use mathlib.Core.Path.{_≡_}
 use mathlib.Core.List.{List, [], _∷_, _++_, map}
 use Prim.Native.Nat.{ℕ, suc, _+_}
-use lib.ListN.{length, replicate}
-use Rattle.paper.specs.Patterns.{Entry, rows}
+use lib.ListN.{length, take, getD, replicate}
+use Rattle.paper.specs.Lists.{each}
 use Rattle.paper.specs.Matches.{Match}
 use Rattle.paper.specs.Cases.{bytes, at, paperList, list1, values3, short-first, long-first, twins}
-use Rattle.nfa.specs.Grown.{acceptedOf}
+use Rattle.plan.specs.Cells.{Cell}
+use Rattle.plan.specs.PlacementCases.{cell}
 use Rattle.whole.specs.Refusing.{Lent}
-use Rattle.whole.specs.Cases.{WholeCases}
 use Rattle.build.specs.Lot.{Lot, slotsOf}
 use Rattle.build.specs.Outcome as build
 use Rattle.build.specs.Outcome.{made, refused, refusal}
@@ -57,13 +57,15 @@ Builds i lent o = (before after : Lot) (r : Built) → slotsOf before ≡ lent
 abbrev pub good : Input → ℕ → ℕ → ℕ → build.Outcome
 good i accepted states cells = made (record { kind = i .kind; accepted = accepted; states = states; cells = cells })
 
--- the accepted patterns
-abbrev pub accepts : Input → List Entry
-accepts i = acceptedOf (i .kind) (joined (i .patterns)) (endsFrom 0 (i .patterns))
-
 -- any good build of this input, with any tables at entry
 abbrev pub BuildOf : Input → Type 0
 BuildOf i = GoodBuild (i .kind) (joined (i .patterns)) (endsFrom 0 (i .patterns)) (i .values)
+
+-- the first n cells in the tables that it left
+abbrev pub cellsLeft : (i : Input) → BuildOf i → ℕ → List Cell
+cellsLeft i b n =
+    each 0 n
+    (λ j. cell (getD (b .exit .base) j 0) (getD (b .exit .link) j 0) (getD (b .exit .output) j 0) (getD (b .exit .check) j 0) (getD (b .exit .depth) j 0) ∷ [])
 
 -- the answers of so many calls of a search over the tables that it left, the first on a fresh value
 abbrev pub calls : (i : Input) → BuildOf i → Which → List ℕ → ℕ → List Outcome
@@ -79,6 +81,8 @@ lastMoves (o ∷ p ∷ os) = lastMoves (p ∷ os)
 pub record Case (w : Which) (i : Input) (text : List ℕ) (accepted states : ℕ) (matches : List (Match ℕ)) (moves : ℕ) : Type 0 where
   -- with exactly the slots that it needs, dead counted among the states, the build is good with these counts, in one block
   pub built : Builds i (slots (suc states) 256 accepted) (good i accepted states 256)
+  -- so there is a good build of it
+  pub some : BuildOf i
   -- over the tables that any good build of it left, the search says these matches and then the end
   pub says : (b : BuildOf i) → map said (calls i b w text (suc (length matches))) ≡ map match matches ++ (end ∷ [])
   -- and the end has these moves
@@ -92,10 +96,19 @@ three = under 0 list1 values3
 
 -- P1 to P9, each with the accepted patterns, the states, the matches as (start, end, value), and the moves, which leftmost search reports as 0
 pub record CaseTable : Type 0 where
-  -- P1 bcd, ab, a: the counts; and the list as it was read is the one of which the cells and outputs are told
+  -- P1 bcd, ab, a: the counts; and the cells, as (base, failure, output, check, depth), and outputs in the tables that any good build of it left
   pub p1 : Builds three (slots 7 256 3) (good three 3 6 256)
-  pub p1-list : accepts three ≡ rows list1
-  pub p1-cells : WholeCases
+  pub p1-cells : (b : BuildOf three) → cellsLeft three b 256
+      ≡ cell 101 0 0 0 0
+      ∷ cell 0 0 0 1 0
+      ∷ cell 103 0 0 99 2
+      ∷ cell 0 0 3 100 3
+      ∷ cell 100 0 1 97 1
+      ∷ cell 0 0 0 5 0
+      ∷ cell 0 7 2 98 2
+      ∷ cell 97 0 0 98 1
+      ∷ each 8 248 (λ j. cell 0 0 0 j 0 ∷ [])
+  pub p1-outputs : (b : BuildOf three) → take 3 (b .exit .outs) ≡ (2 ∷ 1 ∷ 0 ∷ []) ∷ (1 ∷ 2 ∷ 0 ∷ []) ∷ (0 ∷ 3 ∷ 0 ∷ []) ∷ []
   -- P2 the same, plain
   pub p2 : Case plain three (bytes "abcd") 3 6 (at 0 1 2 ∷ at 1 4 0 ∷ []) 4
   -- P3 the same, overlapping; the program `case3` prints it
