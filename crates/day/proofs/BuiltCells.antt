@@ -1,7 +1,7 @@
 -- The columns that a good build left hold the fields of the build's cells, so the rules of the cells are rules of the columns.
-use mathlib.Core.Path.{_≡_, refl, sym, ap, _∙_, subst}
+use mathlib.Core.Path.{_≡_, sym, ap, _∙_}
 use mathlib.Core.Bool.{true, false, true≢false}
-use mathlib.Core.List.{List, [], _∷_}
+use mathlib.Core.List.{List}
 use mathlib.Core.Logic.{_≢_, _↔_}
 use Prim.Native.Nat.{ℕ, _*_, _≤_, _<_}
 use native.Mathlib.Omega.{arith}
@@ -15,31 +15,30 @@ use Rattle.paper.proofs.Strings.{by-snoc}
 use Rattle.list.specs.Limits.{alphabet, block, mostBytes}
 use Rattle.list.specs.Kinds.{kindOf}
 use Rattle.list.specs.Claims.{Bytes, Sound}
-use Rattle.plan.specs.Breadth.{Bounded}
 use Rattle.plan.specs.Placement.{Layout, vacant, usedBase, baseOf, cellOf}
 use Rattle.plan.specs.Cells.{Cell, Smallest}
 use Rattle.plan.proofs.Machines.{machine-bounded}
 use Rattle.nfa.specs.Grown.{acceptedOf}
 use Rattle.nfa.proofs.Accepted.{within, fit}
 use Rattle.cells.specs.Columns.{column}
-use Rattle.table.specs.Agrees.{Agrees, probeIn, stateCell}
+use Rattle.table.specs.Agrees.{Agrees, probeIn}
 use Rattle.table.specs.declared.Counts.{Counts}
 use Rattle.table.specs.declared.Found.{Found}
 use Rattle.table.specs.declared.Found.the-variants as found
 use Rattle.table.proofs.Agrees.{cell-root, cell-child}
 use Rattle.table.proofs.Claims as readers
 use Rattle.table.proofs.Inside.{there-yes}
-use Rattle.whole.specs.Whole.{layoutOf, cellCount, cellsOf}
-use Rattle.whole.specs.CellRules.{nowhere, cellHeld, checkAlone, InBlock, CellRules}
+use Rattle.whole.specs.Whole.{layoutOf, cellsOf}
+use Rattle.whole.specs.CellRules.{nowhere, cellHeld, checkAlone, CellRules}
 use Rattle.whole.specs.Refusing.{Lent}
 use Rattle.whole.proofs.Slots.{column-at}
 use Rattle.whole.proofs.Claims as whole
 use Rattle.wipe.specs.Wiped.{blank}
-use Rattle.build.specs.Outcome.{Outcome, refused, made, countsOf, outcomeOf}
+use Rattle.build.specs.Outcome.{Outcome, made, countsOf, outcomeOf}
 use Rattle.build.specs.Promise.{left}
 use Rattle.build.proofs.Claims.{good-told, answer-claims}
 use Rattle.day.specs.EndToEnd.{GoodBuild, tablesLeft}
-use Rattle.day.specs.BuiltCells.{IsState, NoState, cellLeft, baseLeft, UsedLeft, SmallestLeft, VacantLeft, BlankLeft, BuiltCells, BuiltCellsClaims}
+use Rattle.day.specs.BuiltCells.{IsState, cellLeft, baseLeft, UsedLeft, SmallestLeft, VacantLeft, BlankLeft, BuiltCells, BuiltCellsClaims}
 use Rattle.day.proofs.EndToEnd.{agrees}
 
 -- what a good build leaves

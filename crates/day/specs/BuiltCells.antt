@@ -2,16 +2,14 @@
 -- these bases lead to, so no layout is needed but for the order of placing. The proof is `built-cells` in ../proofs.
 use mathlib.Core.Path.{_≡_}
 use mathlib.Core.Bool.{true, false}
-use mathlib.Core.List.{List, [], _∷_}
+use mathlib.Core.List.{List, []}
 use mathlib.Core.Logic.{_≢_, _↔_}
 use Prim.Native.Nat.{ℕ, _*_, _≤_, _<_}
 use lib.Bits.{bitXor}
 use lib.ListN.{length, getD}
 use Rattle.paper.specs.Lists.{snoc}
-use Rattle.paper.specs.Patterns.{Entry}
 use Rattle.paper.specs.Automaton.{isState}
 use Rattle.list.specs.Limits.{alphabet, block}
-use Rattle.list.specs.Kinds.{kindOf}
 use Rattle.list.specs.Claims.{Bytes}
 use Rattle.plan.specs.Placement.{baseOf}
 use Rattle.nfa.specs.Grown.{acceptedOf}

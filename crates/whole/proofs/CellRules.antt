@@ -4,7 +4,7 @@ use mathlib.Core.Bool.{Bool, true, false, not}
 use mathlib.Core.List.{List, [], _∷_, List·Memᴰ, List·Memᴰ·head, Memᴰ·append-left}
 use mathlib.Core.Logic.{_≢_, _↔_}
 use mathlib.Core.Option.{Option, none, some, Option·none-ne-some}
-use Prim.Native.Nat.{ℕ, suc, _+_, _*_, _/_, _≤_, _<_}
+use Prim.Native.Nat.{ℕ, suc, _*_, _/_, _≤_, _<_}
 use native.Mathlib.Omega.{arith}
 use native.Mathlib.Decide.{decLt}
 use lib.Bits.{bitXor, xor-zero-l}
@@ -28,15 +28,15 @@ use Rattle.plan.proofs.Groups.{flat-nil}
 use Rattle.plan.proofs.Machines.{machine-bounded}
 use Rattle.plan.proofs.Layouts.{begun-good, vacant-off, used-in, to-used, zero-unused}
 use Rattle.plan.proofs.Placement.{all-append, all-good, window-reaches}
-use Rattle.plan.proofs.Owners.{cell-root, groups-full, child-home, placed-base, placed-child, base-once, home-based, owner-state, state-owner, taken-owner, vacant-owner}
+use Rattle.plan.proofs.Owners.{cell-root, groups-full, child-home, placed-base, placed-child, base-once, owner-state, state-owner, taken-owner, vacant-owner}
 use Rattle.plan.proofs.Cells.{cells-length, cells-at}
 use Rattle.plan.proofs.PlacementClaims.{placement}
 use Rattle.spots.proofs.Charting.{bytes}
 use Rattle.groups.specs.Ordered.{groupsOf, noGroup}
 use Rattle.placement.specs.Laid.{firstBlock, laidOut}
 use Rattle.outputs.specs.Placed.{allStored}
-use Rattle.whole.specs.Whole.{layoutOf, cellsOf}
-use Rattle.whole.specs.CellRules.{stackGroups, layoutAfter, PlacesNext, PlacingRules, nowhere, cellHeld, checkAlone, InBlock, CellRules}
+use Rattle.whole.specs.Whole.{layoutOf}
+use Rattle.whole.specs.CellRules.{layoutAfter, PlacesNext, PlacingRules, nowhere, cellHeld, checkAlone, InBlock, CellRules}
 
 reaches : Reaches firstBlock
 reaches = window-reaches 16 (omega arith)
