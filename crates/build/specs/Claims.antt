@@ -46,7 +46,7 @@ pub record AnswerClaims (kind : ℕ) (bytes ends values : List ℕ) (slots : Len
 pub record BuildClaims (kind : ℕ) (bytes ends values : List ℕ) (before : Lot) : Type 0 where
   -- no second answer could meet it
   pub one-answer : (after after' : Lot) (r r' : Built) → Promise kind bytes ends values before after r → Promise kind bytes ends values before after' r' → r ≡ r'
-  -- and no second lot after
+  -- and no second lot of tables
   pub one-lot : (after after' : Lot) (r r' : Built) → Promise kind bytes ends values before after r → Promise kind bytes ends values before after' r' → after ≡ after'
   -- the tables of a good build agree with the accepted patterns
   pub agrees : (after : Lot) (counts : Counts) → Bytes bytes → Promise kind bytes ends values before after (Made counts)

@@ -11,11 +11,11 @@ use Rattle.list.specs.Listed.{patternsOf}
 use Rattle.list.specs.Claims.{Bytes}
 use Rattle.table.specs.Agrees.{Tables}
 use Rattle.table.specs.declared.Counts.{Counts}
-use Rattle.build.specs.Lot.{Lot}
+use Rattle.build.specs.Lot.{Lot, resultsOf}
 use Rattle.build.specs.Promise.{Promise}
 use Rattle.build.specs.declared.Built.the-variants.{Made}
 use Rattle.search.specs.declared.Search.{Search}
-use Rattle.search.specs.Values.{Which, Outcome, lent}
+use Rattle.search.specs.Values.{Which, Outcome}
 use Rattle.meaning.specs.Demands.{kindNumber, answersOver, StandardDemands, LeftmostDemands}
 
 -- ---- a build, and the searches after it
@@ -29,7 +29,7 @@ pub record GoodBuild (kind : ℕ) (bytes ends values : List ℕ) : Type 0 where
 
 -- the tables that it leaves, as they are lent to a search
 abbrev pub tablesLeft : {kind : ℕ} {bytes ends values : List ℕ} → GoodBuild kind bytes ends values → Tables
-tablesLeft b = lent (b .exit .base) (b .exit .link) (b .exit .output) (b .exit .check) (b .exit .depth) (b .exit .outs) (b .counts)
+tablesLeft b = resultsOf (b .exit) (b .counts)
 
 -- what the searches of a text answer over them
 abbrev pub searches : {kind : ℕ} {bytes ends values : List ℕ} → GoodBuild kind bytes ends values → List ℕ → Which → Search → Outcome
