@@ -62,8 +62,8 @@ abbrev pub BuildOf : Input → Type 0
 BuildOf i = GoodBuild (i .kind) (joined (i .patterns)) (endsFrom 0 (i .patterns)) (i .values)
 
 -- the first n cells in the tables that it left
-abbrev pub cellsLeft : (i : Input) → BuildOf i → ℕ → List Cell
-cellsLeft i b n =
+abbrev pub firstCells : (i : Input) → BuildOf i → ℕ → List Cell
+firstCells i b n =
     each 0 n
     (λ j. cell (getD (b .exit .base) j 0) (getD (b .exit .link) j 0) (getD (b .exit .output) j 0) (getD (b .exit .check) j 0) (getD (b .exit .depth) j 0) ∷ [])
 
@@ -98,7 +98,7 @@ three = under 0 list1 values3
 pub record CaseTable : Type 0 where
   -- P1 bcd, ab, a: the counts; and the cells, as (base, failure, output, check, depth), and outputs in the tables that any good build of it left
   pub p1 : Builds three (slots 7 256 3) (good three 3 6 256)
-  pub p1-cells : (b : BuildOf three) → cellsLeft three b 256
+  pub p1-cells : (b : BuildOf three) → firstCells three b 256
       ≡ cell 101 0 0 0 0
       ∷ cell 0 0 0 1 0
       ∷ cell 103 0 0 99 2
