@@ -3,10 +3,10 @@ use mathlib.Core.Path.{_≡_}
 use mathlib.Core.List.{List, [], _∷_}
 use Prim.Native.Nat.{ℕ}
 use lib.ListN.{length}
-use Rattle.table.specs.Agrees.{Tables}
+use Rattle.table.specs.Agrees.{Tables, lent}
 use Rattle.table.specs.declared.Counts.{Counts}
 use Rattle.search.specs.declared.Search.{Search}
-use Rattle.search.specs.Values.{Which, cell, valueOf, lent}
+use Rattle.search.specs.Values.{Which, cell, valueOf}
 use Rattle.sheet.specs.Sheet.{Stop, full, ended, refused, Load, sheetOf, written}
 use Rattle.build.specs.declared.Built.{Built}
 use Rattle.build.specs.Lot.{Lot}

@@ -5,7 +5,7 @@ use Prim.Native.Nat.{ℕ}
 use lib.ListN.{length}
 use Rattle.list.specs.Limits.{smaller}
 use Rattle.table.specs.Slots.{columnSlots}
-use Rattle.table.specs.Agrees.{Tables}
+use Rattle.table.specs.Agrees.{Tables, lent}
 use Rattle.table.specs.declared.Counts.{Counts}
 use Rattle.whole.specs.Refusing.{Lent}
 
@@ -54,14 +54,4 @@ slotsOf l =
 
 -- what a search is lent of it, with the counts of the build
 abbrev pub resultsOf : Lot → Counts → Tables
-resultsOf l counts =
-    record {
-      base = l .base;
-      link = l .link;
-      output = l .output;
-      check = l .check;
-      depth = l .depth;
-      outs = l .outs;
-      cells = counts .cells;
-      accepted = counts .accepted;
-    }
+resultsOf l counts = lent (l .base) (l .link) (l .output) (l .check) (l .depth) (l .outs) counts

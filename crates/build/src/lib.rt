@@ -24,15 +24,15 @@ pub enum Built {
     BadKind,
     // 2: the counts of ends and values differ, or the ends don't cut the bytes.
     BadEnds,
-    // 3: more than MOST_LISTED patterns are listed.
+    // 3: more patterns are listed than the limit.
     TooMany,
     // 4: a pattern is empty; the lowest index of such a one.
     Empty(u32),
-    // 5: a pattern has more than MOST_BYTES bytes; the lowest index of such a one.
+    // 5: a pattern has more bytes than the limit; the lowest index of such a one.
     TooLong(u32),
     // 6: the states, root and dead counted, exceed the state slots.
     FewStates,
-    // 7: the cells exceed the cell slots, or MOST_CELLS.
+    // 7: the cells exceed the cell slots, or the limit.
     FewCells,
     // 8: the accepted patterns exceed the output slots.
     FewOutputs,

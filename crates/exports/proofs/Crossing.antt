@@ -5,7 +5,8 @@ use Prim.Native.Nat.{ℕ}
 use lib.ListN.{length}
 use Rattle.table.specs.declared.Counts.{Counts}
 use Rattle.search.specs.declared.Search.{Search}
-use Rattle.search.specs.Values.{Which, lent}
+use Rattle.table.specs.Agrees.{lent}
+use Rattle.search.specs.Values.{Which}
 use Rattle.sheet.specs.declared.Filled.{Filled}
 use Rattle.sheet.specs.Sheet.{Load, sheetOf, written, stopOf, Tells}
 use Rattle.boundary.specs.Boundary.{stopNumber, countsOf, heldIn, SearchPromise}

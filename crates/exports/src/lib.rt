@@ -9,7 +9,8 @@ use table::Depth;
 ghost use mathlib.Core.Path.{_≡_};
 ghost use lib.ListN.{length};
 ghost use Rattle.build.specs.Lot.{lotOf};
-ghost use Rattle.search.specs.Values.{overlapping, plain, leftmost, lent};
+ghost use Rattle.table.specs.Agrees.{lent};
+ghost use Rattle.search.specs.Values.{overlapping, plain, leftmost};
 ghost use Rattle.sheet.specs.Sheet.{sheetOf};
 ghost use Rattle.boundary.specs.Boundary.{BuildPromise, countsOf, heldIn, SearchPromise};
 

@@ -16,12 +16,12 @@ use Rattle.table.specs.Agrees.{Tables, Agrees}
 use Rattle.search.specs.declared.Search.{Search}
 use Rattle.search.specs.Values as search
 use Rattle.search.specs.Values.{Outcome, begun}
-use Rattle.search.specs.Searches.{afterLeftmost}
+use Rattle.search.specs.Searches.{afterLeftmost, nextOf}
 use Rattle.meaning.specs.Repeated.{answers, said, thenEnd}
-use Rattle.meaning.specs.Demands.{valueIn, kindNumber, noMoves, HasTaken, LeftmostDemands, answersOver}
+use Rattle.meaning.specs.Demands.{valueIn, kindNumber, noMoves, HasTaken, LeftmostDemands}
 use Rattle.meaning.proofs.Unrefused.{unrefused}
-use Rattle.meaning.proofs.Repeating.{Turn, repeated, each-answer}
-use Rattle.meaning.proofs.Counting.{counted}
+use Rattle.meaning.proofs.Repeating.{Turn, repeated}
+use Rattle.meaning.proofs.Counting.{all-taken}
 use Rattle.meaning.proofs.LeftmostPaper.{walkAt, Ends, given, given-any, given-ends}
 use Rattle.meaning.proofs.LeftmostWalk.{answerIn, walk-says}
 
@@ -37,7 +37,7 @@ module _ (T : Tables) (choice : Choice) (es : List Entry) (values text : List �
 
   -- a call
   abbrev next : Search → Outcome
-  next v = answersOver T (kindNumber choice) text search.leftmost v
+  next v = nextOf search.leftmost T (kindNumber choice) text v
 
   -- at root, from a place in the text, it answers what the paper's call gives there, whatever moves that has
   call-says : (p m : ℕ) → p ≤ length text → next (afterLeftmost p) ≡ answerIn values (length text) (given M (walkAt [] m) p none (drop p text))
@@ -110,22 +110,19 @@ module _ (T : Tables) (choice : Choice) (es : List Entry) (values text : List �
   calls-say : (n : ℕ) → map said (answers next n begun) ≡ thenEnd n (withPayloads (valueIn values) ((saysLeftmost M (suc (length text)) 0 0 text) .matches))
   calls-say n = repeated values next Left turns n begun _ begun-left
 
-  -- the value in an answer has no moves
-  counts : (v : Search) (l : List Occurrence) → Left v l → HasTaken noMoves text (next v)
-  counts v l L =
-      let t = turns v l L in
-      counted search.leftmost T (kindNumber choice) text noMoves v (withPayloads (valueIn values) l) (next v) refl (t .says)
-      (ap (λ (u : Search). u .moves) (t .leaves .value))
+  -- a value has no moves
+  made : (v : Search) (l : List Occurrence) → Left v l → v .moves ≡ 0
+  made v l L = ap (λ (u : Search). u .moves) (L .value)
 
   moves : (n : ℕ) (o : Outcome) → List·Memᴰ o (answers next n begun) → HasTaken noMoves text o
-  moves n = each-answer values next Left turns (HasTaken noMoves text) counts n begun _ begun-left
+  moves n = all-taken search.leftmost T (kindNumber choice) text noMoves values Left turns made n begun _ begun-left
 
 -- demands 2 and 3 of leftmost search
 pub leftmost-holds : (T : Tables) (c : Choice) (ps : List (List ℕ)) (values text : List ℕ) → Filled ps
     → Agrees T (leftmost c) (accepted (leftmost c) ps) values
     → Bytes text
     → length text ≤ mostText
-    → LeftmostDemands (answersOver T (kindNumber c) text) c (accepted (leftmost c) ps) values text
+    → LeftmostDemands (λ w. nextOf w T (kindNumber c) text) c (accepted (leftmost c) ps) values text
 leftmost-holds T c ps values text h A B short =
     record {
       leftmost-says = λ n. calls-say T c (accepted (leftmost c) ps) values text A B short n

@@ -18,12 +18,12 @@ use Rattle.table.specs.declared.Row.{Row}
 use Rattle.search.specs.declared.Search.{Search}
 use Rattle.search.specs.Values as search
 use Rattle.search.specs.Values.{Outcome, gives, ends, matchOf, begun}
-use Rattle.search.specs.Searches.{seekOf, rest, afterOutput, walkOf}
+use Rattle.search.specs.Searches.{seekOf, rest, afterOutput, walkOf, nextOf}
 use Rattle.search.proofs.Named.{outputAt, endsAt}
 use Rattle.meaning.specs.Repeated.{answers, said, thenEnd}
-use Rattle.meaning.specs.Demands.{valueIn, walkMoves, HasTaken, FewMoves, answersOver}
-use Rattle.meaning.proofs.Repeating.{Turn, repeated, each-answer}
-use Rattle.meaning.proofs.Counting.{counted, bounded}
+use Rattle.meaning.specs.Demands.{valueIn, walkMoves, HasTaken, FewMoves}
+use Rattle.meaning.proofs.Repeating.{Turn, repeated}
+use Rattle.meaning.proofs.Counting.{all-taken, all-few}
 use Rattle.meaning.proofs.Unrefused.{unrefused}
 use Rattle.meaning.proofs.StandardWalk.{Standing, Comes, to-output, to-end, rowOf, moves-are, moves-few, fits, begun-stands, comes}
 
@@ -40,7 +40,7 @@ module _ (T : Tables) (es : List Entry) (values text : List ℕ) (A : Agrees T s
   M = machine standard es
 
   abbrev next : Search → Outcome
-  next v = answersOver T 0 text search.overlapping v
+  next v = nextOf search.overlapping T 0 text v
 
   -- a value has these matches left
   record Left (v : Search) (l : List Occurrence) : Type 0 where
@@ -108,20 +108,15 @@ module _ (T : Tables) (es : List Entry) (values text : List ℕ) (A : Agrees T s
       repeated values next Left turns n begun (saysAll M fresh 0 text) begun-left
       ∙ ap (λ (l : List Occurrence). thenEnd n (withPayloads (valueIn values) l)) (says-overlapping es text)
 
-  -- the value in an answer
-  counts : (v : Search) (l : List Occurrence) → Left v l → HasTaken (walkMoves es) text (next v)
-  counts v l L =
-      let t = turns v l L in
-      counted search.overlapping T 0 text (walkMoves es) v (withPayloads (valueIn values) l) (next v) refl (t .says)
-      (moves-are T es values text A bytes goesOn refl (t .leaves .stands))
+  -- the moves that a value has made
+  made : (v : Search) (l : List Occurrence) → Left v l → v .moves ≡ walkMoves es (take (v .place) text)
+  made v l L = moves-are T es values text A bytes goesOn refl (L .stands)
 
-  bounds : (v : Search) (l : List Occurrence) → Left v l → FewMoves text (next v)
-  bounds v l L =
-      let H = turns v l L .leaves .stands in
-      bounded (walkMoves es) text (next v) (counts v l L) (H .inside, moves-few T es values text A bytes goesOn refl H)
+  few : (v : Search) (l : List Occurrence) → Left v l → (v .place ≤ length text) × (v .moves ≤ 2 * v .place - 1)
+  few v l L = (L .stands .inside, moves-few T es values text A bytes goesOn refl (L .stands))
 
   pub moves : (n : ℕ) (o : Outcome) → List·Memᴰ o (answers next n begun) → HasTaken (walkMoves es) text o
-  moves n = each-answer values next Left turns (HasTaken (walkMoves es) text) counts n begun (saysAll M fresh 0 text) begun-left
+  moves n = all-taken search.overlapping T 0 text (walkMoves es) values Left turns made n begun (saysAll M fresh 0 text) begun-left
 
   pub bound : (n : ℕ) (o : Outcome) → List·Memᴰ o (answers next n begun) → FewMoves text o
-  bound n = each-answer values next Left turns (FewMoves text) bounds n begun (saysAll M fresh 0 text) begun-left
+  bound n = all-few search.overlapping T 0 text (walkMoves es) values Left turns made few n begun (saysAll M fresh 0 text) begun-left

@@ -6,13 +6,14 @@ use Rattle.paper.specs.Patterns.{Entry, standard}
 use Rattle.list.specs.Limits.{mostText}
 use Rattle.list.specs.Claims.{Bytes}
 use Rattle.table.specs.Agrees.{Tables, Agrees}
-use Rattle.meaning.specs.Demands.{StandardDemands, answersOver}
+use Rattle.search.specs.Searches.{nextOf}
+use Rattle.meaning.specs.Demands.{StandardDemands}
 use Rattle.meaning.proofs.Overlapping as overlapping
 use Rattle.meaning.proofs.Plain as plain
 
 -- over tables of kind Standard that agree with a list, for a text of bytes within the limit
 pub standard-holds : (T : Tables) (es : List Entry) (values text : List ℕ) → Agrees T standard es values → Bytes text → length text ≤ mostText
-    → StandardDemands (answersOver T 0 text) es values text
+    → StandardDemands (λ w. nextOf w T 0 text) es values text
 standard-holds T es values text A bytes short =
     record {
       overlapping-says = overlapping.says T es values text A bytes short;

@@ -76,18 +76,14 @@ pub record LeftmostDemands (next : Which → Search → Outcome) (c : Choice) (e
   -- the place in every answer, and no moves
   pub leftmost-moves : (n : ℕ) (o : Outcome) → List·Memᴰ o (answers (next search.leftmost) n begun) → HasTaken noMoves text o
 
--- what our searches of a text answer on a value, over tables of a kind
-abbrev pub answersOver : Tables → ℕ → List ℕ → Which → Search → Outcome
-answersOver T kind text w v = nextOf w T kind text v
-
 -- what is proved, for a text of bytes within the limit
 pub record MeaningClaims : Type 0 where
   -- over tables of kind Standard that agree with a list
   pub standard-holds : (T : Tables) (es : List Entry) (values text : List ℕ) → Agrees T standard es values → Bytes text → length text ≤ mostText
-      → StandardDemands (answersOver T 0 text) es values text
+      → StandardDemands (λ w. nextOf w T 0 text) es values text
   -- over tables of a leftmost kind that agree with what it accepts of a list
   pub leftmost-holds : (T : Tables) (c : Choice) (ps : List (List ℕ)) (values text : List ℕ) → Filled ps
       → Agrees T (leftmost c) (accepted (leftmost c) ps) values
       → Bytes text
       → length text ≤ mostText
-      → LeftmostDemands (answersOver T (kindNumber c) text) c (accepted (leftmost c) ps) values text
+      → LeftmostDemands (λ w. nextOf w T (kindNumber c) text) c (accepted (leftmost c) ps) values text

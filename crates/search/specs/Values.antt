@@ -1,9 +1,6 @@
 -- Search values, matches, and what a call answers.
-use mathlib.Core.List.{List}
 use Prim.Native.Nat.{ℕ, _-_}
-use Rattle.table.specs.Agrees.{Tables}
 use Rattle.table.specs.declared.CellId.{CellId}
-use Rattle.table.specs.declared.Counts.{Counts}
 use Rattle.table.specs.declared.Row.{Row}
 use Rattle.search.specs.declared.Search.{Search}
 use Rattle.search.specs.declared.Match.{Match}
@@ -41,11 +38,6 @@ begun = valueOf (cell root) 0 0 0
 -- the match of an output that ends there
 abbrev pub matchOf : Row → ℕ → Match
 matchOf row end = record { start = end - row .length; end = end; value = row .value }
-
--- the tables as they are lent, with the counts of the build
-abbrev pub lent : List ℕ → List ℕ → List ℕ → List ℕ → List ℕ → List (List ℕ) → Counts → Tables
-lent base link output check depth outs counts =
-    record { base = base; link = link; output = output; check = check; depth = depth; outs = outs; cells = counts .cells; accepted = counts .accepted }
 
 -- what a call answers: a match and the next value, the end and the next value, or the number of a refusal and the value as it came in
 pub data Outcome : Type 0 where

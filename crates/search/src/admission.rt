@@ -11,7 +11,7 @@ ghost use Prim.Native.Nat.{_≤_};
 ghost use lib.ListN.{length};
 ghost use Rattle.list.specs.Limits.{mostText};
 ghost use Rattle.list.specs.Refusals.{lowest};
-ghost use Rattle.search.specs.Values.{lent};
+ghost use Rattle.table.specs.Agrees.{lent};
 ghost use Rattle.search.specs.Admission.{kindsOf, countsBroken, valueBroken, atFirst, told};
 
 pub(crate) enum Admission {

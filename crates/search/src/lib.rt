@@ -7,7 +7,8 @@ use table::Depth;
 use table::Row;
 ghost use mathlib.Core.Path.{_≡_};
 ghost use Prim.Native.Nat.{_≤_};
-ghost use Rattle.search.specs.Values.{overlapping, plain, leftmost, valueOf, begun, matchOf, lent, answer};
+ghost use Rattle.table.specs.Agrees.{lent};
+ghost use Rattle.search.specs.Values.{overlapping, plain, leftmost, valueOf, begun, matchOf, answer};
 ghost use Rattle.search.specs.Searches.{nextOf};
 
 mod admission;

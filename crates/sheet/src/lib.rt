@@ -12,7 +12,8 @@ ghost use mathlib.Core.Path.{_≡_};
 ghost use Prim.Native.Nat.{_<_};
 ghost use lib.ListN.{length, set};
 ghost use Rattle.list.specs.Refusals.{lowest};
-ghost use Rattle.search.specs.Values.{overlapping, plain, leftmost, lent};
+ghost use Rattle.table.specs.Agrees.{lent};
+ghost use Rattle.search.specs.Values.{overlapping, plain, leftmost};
 ghost use Rattle.search.specs.Admission.{otherKind};
 ghost use Rattle.sheet.specs.Sheet.{recordOf, barred, atOnce, sheetOf, written, stopOf, Tells};
 

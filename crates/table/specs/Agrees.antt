@@ -11,6 +11,7 @@ use Rattle.paper.specs.Patterns.{Entry, Kind}
 use Rattle.paper.specs.Automaton.{machine, isState, Link, dead, to, link, output}
 use Rattle.list.specs.Limits.{alphabet}
 use Rattle.table.specs.Readers.{probeOf, linkOf, placeOf, outputOf}
+use Rattle.table.specs.declared.Counts.{Counts}
 use Rattle.table.specs.declared.Found.{Found}
 use Rattle.table.specs.declared.Found.the-variants as found
 use Rattle.table.specs.declared.Linked.{Linked}
@@ -30,6 +31,11 @@ pub record Tables : Type 0 where
   pub outs : List (List ℕ)
   pub cells : ℕ
   pub accepted : ℕ
+
+-- the tables as they are lent, with the counts of the build
+abbrev pub lent : List ℕ → List ℕ → List ℕ → List ℕ → List ℕ → List (List ℕ) → Counts → Tables
+lent base link output check depth outs counts =
+    record { base = base; link = link; output = output; check = check; depth = depth; outs = outs; cells = counts .cells; accepted = counts .accepted }
 
 -- ---- the readers on these tables
 

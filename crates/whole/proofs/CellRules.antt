@@ -16,7 +16,7 @@ use Rattle.paper.specs.Automaton.{Machine, machine, isState, link}
 use Rattle.paper.proofs.Tests.{test, clash}
 use Rattle.paper.proofs.Links.{ruled}
 use Rattle.paper.proofs.Machines.{lawful}
-use Rattle.list.specs.Limits.{alphabet, block, mostBytes}
+use Rattle.list.specs.Limits.{alphabet, block, mostBytes, windowBlocks}
 use Rattle.plan.specs.Breadth.{kidBytes, Bounded, Within}
 use Rattle.plan.specs.Groups.{Group}
 use Rattle.plan.specs.Outputs.{Stored}
@@ -39,7 +39,7 @@ use Rattle.whole.specs.Whole.{layoutOf}
 use Rattle.whole.specs.CellRules.{layoutAfter, PlacesNext, PlacingRules, nowhere, cellHeld, checkAlone, InBlock, CellRules}
 
 reaches : Reaches firstBlock
-reaches = window-reaches 16 (omega arith)
+reaches = window-reaches windowBlocks (omega arith)
 
 -- a block has one smallest unused base
 one-smallest : (l : Layout) (k u v : ℕ) → Smallest block l k u → Smallest block l k v → u ≡ v

@@ -1,7 +1,8 @@
 -- `next_leftmost` by its ways: refused first, or as the walk says, with the match that is kept last.
 use Rattle.search.proofs.Calls.{Seekable, granted, granted-cleared, few-at, arrived, refused-first, walk-damaged, leftmost-gives, leftmost-ends, keep-damaged}
 use Rattle.search.specs.Searches.{seekOf, keepOf, rest, cleared}
-use Rattle.search.specs.Values.{leftmost, lent, gives, ends}
+use Rattle.table.specs.Agrees.{lent}
+use Rattle.search.specs.Values.{leftmost, gives, ends}
 use Rattle.search.specs.declared.Match.{Match}
 use Rattle.search.specs.declared.Search.{Search}
 use lib.ListN.{length}

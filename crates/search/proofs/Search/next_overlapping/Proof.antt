@@ -1,6 +1,7 @@
 -- `next_overlapping` by its ways: refused first, or as the walk says.
 use Rattle.search.proofs.Calls.{granted, few-at, arrived, refused-first, walk-damaged, overlapping-gives, overlapping-ends}
-use Rattle.search.specs.Values.{overlapping, lent, gives}
+use Rattle.table.specs.Agrees.{lent}
+use Rattle.search.specs.Values.{overlapping, gives}
 use lib.ListN.{length}
 use native.Mathlib.Omega.{arith}
 use mathlib.Core.Bool.{false}

@@ -1,7 +1,8 @@
 -- `next_plain` by its ways: refused first, or as the walk says.
 use Rattle.search.proofs.Calls.{Seekable, granted, granted-cleared, few-at, arrived, refused-first, walk-damaged, plain-gives, plain-ends}
 use Rattle.search.specs.Searches.{seekOf, rest, cleared}
-use Rattle.search.specs.Values.{plain, lent, gives}
+use Rattle.table.specs.Agrees.{lent}
+use Rattle.search.specs.Values.{plain, gives}
 use Rattle.search.specs.declared.Search.{Search}
 use lib.ListN.{length}
 use native.Mathlib.Omega.{arith}

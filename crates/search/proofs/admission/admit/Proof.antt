@@ -1,5 +1,5 @@
 -- `admit` by its ways: the kind first, then the text, then what the counts and the value show.
-use Rattle.search.specs.Values.{lent}
+use Rattle.table.specs.Agrees.{lent}
 use lib.ListN.{length}
 use mathlib.Core.Path.{sym, _∙_}
 use Rattle.search.proofs.Admitting.{told-other, told-unknown-long, told-unknown, told-long, told-counts, told-value, told-none}

@@ -1,5 +1,5 @@
 -- `counts_broken` by its two tests.
-use Rattle.search.specs.Values.{lent}
+use Rattle.table.specs.Agrees.{lent}
 use Rattle.search.proofs.Admitting.{outputs-short, cells-tested}
 use borrow.Author.Needs.{needs}
 use Rattle.search.proofs.admission.counts_broken.Statement.{statement}

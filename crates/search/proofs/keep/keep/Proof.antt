@@ -1,7 +1,7 @@
 -- `keep` against its definition: what is left of the walk with the match in hand stays the whole.
 use Rattle.search.proofs.Advancing.{stepped}
 use Rattle.search.proofs.Loops.{Shallow, Keeping, kept-end, kept-stuck, kept-root, kept-broken, kept-given, kept-nothing, kept-matched, row-fits, few-before, falls-short}
-use Rattle.search.specs.Values.{lent}
+use Rattle.table.specs.Agrees.{lent}
 use borrow.Author.Needs.{needs}
 use lib.ListN.{length}
 use native.Mathlib.Omega.{arith}

@@ -1,7 +1,7 @@
 -- `seek` against its definition: what is left of the walk stays the whole walk.
 use Rattle.search.proofs.Advancing.{Stepped, stepped}
 use Rattle.search.proofs.Loops.{Shallow, Seeking, sought-given, sought-broken, sought-end, sought-stuck, sought-on, few-before, falls-short}
-use Rattle.search.specs.Values.{lent}
+use Rattle.table.specs.Agrees.{lent}
 use borrow.Author.Needs.{needs}
 use lib.ListN.{length}
 use native.Mathlib.Omega.{arith}
