@@ -1,6 +1,6 @@
 -- The tables of a good build agree with what is accepted of the list, so the demands hold over them; and what the kinds accept says the lists of
 -- what is listed.
-use mathlib.Core.Path.{_≡_, refl, sym, ap, _∙_}
+use mathlib.Core.Path.{_≡_, refl, sym, ap, _∙_, subst}
 use mathlib.Core.List.{List}
 use Prim.Native.Nat.{ℕ, _≤_}
 use lib.ListN.{length}
@@ -18,8 +18,9 @@ use Rattle.whole.specs.Refusing.{Lent, Suffices}
 use Rattle.build.specs.Lot.{slotsOf}
 use Rattle.build.specs.Outcome.{Outcome, refused, made, outcomeOf}
 use Rattle.build.proofs.Claims.{good-told, answer-claims, build-claims}
+use Rattle.search.specs.Searches.{nextOf}
 use Rattle.meaning.specs.Repeated.{thenEnd}
-use Rattle.meaning.specs.Demands.{valueIn, kindNumber}
+use Rattle.meaning.specs.Demands.{valueIn, kindNumber, StandardDemands, LeftmostDemands}
 use Rattle.meaning.proofs.Claims as meaning
 use Rattle.day.specs.EndToEnd.{GoodBuild, tablesLeft, StandardDay, LeftmostDay, DayClaims}
 
@@ -62,7 +63,7 @@ standard-day bytes ends values text b B C short =
     let D = meaning.claims .standard-holds (tablesLeft b) es values text (agrees b B) C short in
     let P = rows-proper (patternsOf bytes ends) (filled b) in
     record {
-      demands = rw (kind-is b) D;
+      demands = subst (λ (k : ℕ). StandardDemands (λ w v. nextOf w (tablesLeft b) k text v) es values text) (sym (kind-is b)) D;
       overlapping-list = lists .overlapping-is es text P;
       plain-list = lists .plain-is es text P;
     }
@@ -80,7 +81,7 @@ leftmost-day c bytes ends values text b B C short =
     = rw (← kind-of c) (agrees b B) in
     let D = meaning.claims .leftmost-holds (tablesLeft b) c ps values text (filled b) A C short in
     record {
-      demands = rw (kind-is b)
+      demands = subst (λ (k : ℕ). LeftmostDemands (λ w v. nextOf w (tablesLeft b) k text v) c (rows ps) values text) (sym (kind-is b))
           (record {
             leftmost-says = λ n. D .leftmost-says n ∙ ap (λ (l : List Occurrence). thenEnd n (withPayloads (valueIn values) l)) (lists .same-list c ps text (filled b));
             leftmost-moves = D .leftmost-moves;

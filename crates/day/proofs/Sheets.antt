@@ -1,7 +1,8 @@
 -- What repeated calls say, and what their answers hand back, is what a sheet holds.
-use mathlib.Core.Path.{_≡_, refl, sym, ap, _∙_}
+use mathlib.Core.Path.{_≡_, refl, sym, ap, _∙_, subst}
 use mathlib.Core.Bool.{Bool, true, false}
 use mathlib.Core.List.{List, [], _∷_, map, List·Memᴰ, List·Memᴰ·head, List·Memᴰ·tail}
+use mathlib.Core.Logic.{⊎-elim}
 use mathlib.Core.Option.{Option, none, some}
 use Prim.Native.Nat.{ℕ, zero, suc}
 use native.Mathlib.Omega.{arith}
@@ -18,14 +19,16 @@ use Rattle.search.specs.declared.Match as search
 use Rattle.search.specs.Values.{Which, Outcome, gives, ends, refuses, begun}
 use Rattle.search.specs.Searches.{isLeftmost, nextOf}
 use Rattle.table.specs.Agrees.{Tables}
+use Rattle.search.proofs.Claims as searches
 use Rattle.sheet.specs.Sheet.{Stop, full, ended, refused, recordOf, Load, stopping, withRecord, onAnswer, loadOf, barred, atOnce, sheetOf}
 use Rattle.sheet.proofs.Beginning.{loads}
 use Rattle.sheet.proofs.Claims as sheets-claims
+use Rattle.sheet.proofs.Claims.{load-ended, sheet-once}
 use Rattle.meaning.specs.Repeated.{handedBack, answers, Saying, match, end, refusal, said, thenEnd}
 use Rattle.meaning.proofs.Repeating.{take-ends}
 use Rattle.meaning.specs.Demands.{valueIn, walkMoves, plainMoves, noMoves, HasTaken}
 use Rattle.day.specs.EndToEnd.{listed}
-use Rattle.day.specs.Sheets.{recordIn, Holds, SheetClaims}
+use Rattle.day.specs.Sheets.{recordIn, Holds, SheetDayClaims}
 use Rattle.day.proofs.EndToEnd as day
 
 -- ---- sayings
@@ -55,6 +58,12 @@ isEnd (match m) = 1
 isEnd end = 0
 isEnd (refusal n) = 2
 
+-- a full sheet has 0, the end 1, a refusal 2
+isStop : Stop → ℕ
+isStop full = 0
+isStop ended = 1
+isStop (refused n) = 2
+
 -- ---- whether a slot is to spare
 
 spare-none : (k : ℕ) → ltb k 0 ≡ false
@@ -77,7 +86,7 @@ module _ (next : Search → Outcome) (moves : List ℕ → ℕ) (text : List ℕ
   unfolding isEnd
   at-end (ends u) n p goOn e C =
       record {
-        written = refl;
+        records-are = refl;
         stops = rw (spare-all n);
         taken = rw (spare-all n) (C .0);
         moved = rw (spare-all n) (C .1 ∙ sym (ap moves (take-length text)));
@@ -95,7 +104,7 @@ module _ (next : Search → Outcome) (moves : List ℕ → ℕ) (text : List ℕ
       let same : m' .end ≡ m .end = ap endOf e in
       let H = more u refl (C .0 ∙ same) (C .1 ∙ ap (λ (k : ℕ). moves (take k text)) same) in
       record {
-        written = ap (λ (s : Saying). rowOf s ∷ goOn u .records) e ∙ ap (λ (r : List (List ℕ)). recordIn m ∷ r) (H .written);
+        records-are = ap (λ (s : Saying). rowOf s ∷ goOn u .records) e ∙ ap (λ (r : List (List ℕ)). recordIn m ∷ r) (H .records-are);
         stops = rw (← spare-next (length l) n) (H .stops);
         taken = rw (← spare-next (length l) n) (H .taken);
         moved = rw (← spare-next (length l) n) (H .moved);
@@ -110,7 +119,7 @@ module _ (next : Search → Outcome) (moves : List ℕ → ℕ) (text : List ℕ
   unfolding loadOf answers firstOf othersOf
   loaded zero v p l here made e C =
       record {
-        written = refl;
+        records-are = refl;
         stops = rw (spare-none (length l));
         taken = rw (spare-none (length l)) here;
         moved = rw (spare-none (length l)) made;
@@ -124,16 +133,29 @@ module _ (next : Search → Outcome) (moves : List ℕ → ℕ) (text : List ℕ
       (ap (λ (x : Search). map said (answers next n x)) is ∙ ap othersOf e ∙ take-ends n n (map match l) (omega arith))
       (λ o k. C o (List·Memᴰ·tail (rw (← is) k))))
 
+  -- the answer after the one that is the end is one of the answers in turn
+  after-by : (n : ℕ) (v : Search) (o : Outcome) → next v ≡ o
+      → ((u : Search) → ((k : ℕ) (a : Outcome) → List·Memᴰ a (answers next k u) → HasTaken moves text a) → loadOf next n u .stop ≡ ended
+      → HasTaken moves text (next (loadOf next n u .value)))
+      → ((k : ℕ) (a : Outcome) → List·Memᴰ a (answers next k v) → HasTaken moves text a)
+      → onAnswer o (λ m u. withRecord (recordOf m) (loadOf next n u)) .stop ≡ ended
+      → HasTaken moves text (next (onAnswer o (λ m u. withRecord (recordOf m) (loadOf next n u)) .value))
+  unfolding answers isStop
+  after-by n v (ends u) q more C e = C 2 (next u) (List·Memᴰ·tail (List·Memᴰ·head (ap (λ (o : Outcome). next (handedBack o)) (sym q))))
+  after-by n v (gives m u) q more C e = more u (λ k a h. C (suc k) a (List·Memᴰ·tail (rw q h))) e
+  after-by n v (refuses k u) q more C e = absurd (omega (arith, ap isStop e))
+
+  after-end : (n : ℕ) (v : Search) → ((k : ℕ) (a : Outcome) → List·Memᴰ a (answers next k v) → HasTaken moves text a) → loadOf next n v .stop ≡ ended
+      → HasTaken moves text (next (loadOf next n v .value))
+  unfolding loadOf isStop
+  after-end zero v C e = absurd (omega (arith, ap isStop e))
+  after-end (suc n) v C e = after-by n v (next v) refl (after-end n) C e
+
 -- ---- a sheet
 
--- a stop as a number: 9 and 10 are no stop of a load that holds matches
-isRefused : Stop → ℕ
-isRefused full = 0
-isRefused ended = 0
-isRefused (refused n) = 1
-
-never-refused : (b : Bool) → isRefused (pick b ended full) ≡ 1 → ⊥
-unfolding isRefused
+-- 9 and 10 are no stop of a load that holds matches
+never-refused : (b : Bool) → isStop (pick b ended full) ≡ 2 → ⊥
+unfolding isStop
 never-refused true e = omega (arith, e)
 never-refused false e = omega (arith, e)
 
@@ -148,36 +170,60 @@ module _ (w : Which) (T : Tables) (kind : ℕ) (text : List ℕ) (moves : List �
 
   -- so 9 and 10 don't apply
   open-to-all : (o : Option Told) → lowest (barred (isLeftmost w) kind (length text)) ≡ o → atOnce o ≡ full
-  unfolding isRefused
+  unfolding isStop
   open-to-all none e = refl
   open-to-all (some t) e =
       let one = slotted 0 .stops in
       let told = sheets-claims.claims w T kind text begun .told-first 1 t e in
-      absurd (never-refused (ltb (length l) 1) (ap isRefused (sym one ∙ ap (λ (x : Load). x .stop) told)))
+      absurd (never-refused (ltb (length l) 1) (ap isStop (sym one ∙ ap (λ (x : Load). x .stop) told)))
 
   held : (slots : ℕ) → Holds moves text slots l 0 (sheetOf w T kind text slots begun)
   unfolding sheetOf
   held zero =
       record {
-        written = refl;
+        records-are = refl;
         stops = rw (spare-none (length l)) (open-to-all _ refl);
         taken = rw (spare-none (length l)) refl;
         moved = rw (spare-none (length l)) (sym none-yet);
       }
   held (suc n) = slotted n
 
-pub sheets : SheetClaims
+  -- after the end there is no refusal
+  ended-again : (slots k : ℕ) → sheetOf w T kind text slots begun .stop ≡ ended
+      → sheetOf w T kind text (suc k) (sheetOf w T kind text slots begun .value) ≡ stopping ended (sheetOf w T kind text slots begun .value)
+  unfolding sheetOf isStop
+  ended-again zero k e = absurd (omega (arith, ap isStop (sym (open-to-all _ refl) ∙ e)))
+  ended-again (suc n) k e =
+      let next : Search → Outcome = nextOf w T kind text in
+      let x = loadOf next (suc n) begun .value in
+      let E = load-ended next (suc n) begun e in
+      let H = after-end next moves text (suc n) begun counts e in
+      ⊎-elim (λ q. sheet-once w T kind text begun k x (ends x) q) (λ q. absurd (subst (HasTaken moves text) q H))
+      (searches.claims w T kind text (E .came) .end-again x (E .ended-there))
+
+pub sheets : SheetDayClaims
 unfolding walk
 sheets =
     record {
-      overlapping-sheet = λ bytes ends values text b B C short.
+      overlapping-sheets = λ bytes ends values text b B C short.
           let D = day.claims .standard-day bytes ends values text b B C short .demands in
-          held _ _ _ text (walkMoves (listed bytes ends)) (withPayloads (valueIn values) (overlapping (listed bytes ends) text)) refl (D .overlapping-says)
-          (D .overlapping-moves);
-      plain-sheet = λ bytes ends values text b B C short.
+          let l = withPayloads (valueIn values) (overlapping (listed bytes ends) text) in
+          record {
+            holds = held _ _ _ text (walkMoves (listed bytes ends)) l refl (D .overlapping-says) (D .overlapping-moves);
+            end-again = ended-again _ _ _ text (walkMoves (listed bytes ends)) l refl (D .overlapping-says) (D .overlapping-moves);
+          };
+      plain-sheets = λ bytes ends values text b B C short.
           let D = day.claims .standard-day bytes ends values text b B C short .demands in
-          held _ _ _ text (plainMoves (listed bytes ends)) (withPayloads (valueIn values) (plain (listed bytes ends) text)) refl (D .plain-says) (D .plain-moves);
-      leftmost-sheet = λ c bytes ends values text b B C short.
+          let l = withPayloads (valueIn values) (plain (listed bytes ends) text) in
+          record {
+            holds = held _ _ _ text (plainMoves (listed bytes ends)) l refl (D .plain-says) (D .plain-moves);
+            end-again = ended-again _ _ _ text (plainMoves (listed bytes ends)) l refl (D .plain-says) (D .plain-moves);
+          };
+      leftmost-sheets = λ c bytes ends values text b B C short.
           let D = day.claims .leftmost-day c bytes ends values text b B C short .demands in
-          held _ _ _ text noMoves (withPayloads (valueIn values) (leftmostBy c (listed bytes ends) text)) refl (D .leftmost-says) (D .leftmost-moves);
+          let l = withPayloads (valueIn values) (leftmostBy c (listed bytes ends) text) in
+          record {
+            holds = held _ _ _ text noMoves l refl (D .leftmost-says) (D .leftmost-moves);
+            end-again = ended-again _ _ _ text noMoves l refl (D .leftmost-says) (D .leftmost-moves);
+          };
     }

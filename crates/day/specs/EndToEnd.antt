@@ -16,7 +16,8 @@ use Rattle.build.specs.Promise.{Promise}
 use Rattle.build.specs.declared.Built.the-variants.{Made}
 use Rattle.search.specs.declared.Search.{Search}
 use Rattle.search.specs.Values.{Which, Outcome}
-use Rattle.meaning.specs.Demands.{kindNumber, answersOver, StandardDemands, LeftmostDemands}
+use Rattle.search.specs.Searches.{nextOf}
+use Rattle.meaning.specs.Demands.{kindNumber, StandardDemands, LeftmostDemands}
 
 -- ---- a build, and the searches after it
 
@@ -33,7 +34,7 @@ tablesLeft b = resultsOf (b .exit) (b .counts)
 
 -- what the searches of a text answer over them
 abbrev pub searches : {kind : ℕ} {bytes ends values : List ℕ} → GoodBuild kind bytes ends values → List ℕ → Which → Search → Outcome
-searches b text = answersOver (tablesLeft b) (b .counts .kind) text
+searches b text w v = nextOf w (tablesLeft b) (b .counts .kind) text v
 
 -- the listed patterns with their rows
 abbrev pub listed : List ℕ → List ℕ → List Entry

@@ -1,8 +1,9 @@
 -- The same day told by sheets: what a call of a fresh search writes, why it stops, and the place and the moves that it hands back, for any number of
--- slots. By `joined` of the crate `sheet` calls in turn do what one call with all their slots does, so this tells every call.
+-- slots. By `joined` of the crate `sheet` calls in turn do what one call with all their slots does, and after the end there is only the end: so this tells
+-- every call.
 use mathlib.Core.Path.{_≡_}
 use mathlib.Core.List.{List, [], _∷_, map}
-use Prim.Native.Nat.{ℕ, _≤_}
+use Prim.Native.Nat.{ℕ, suc, _≤_}
 use lib.Dec.{ltb}
 use lib.ListN.{length, take}
 use Rattle.paper.specs.Lists.{pick}
@@ -12,7 +13,7 @@ use Rattle.list.specs.Limits.{mostText}
 use Rattle.list.specs.Claims.{Bytes}
 use Rattle.search.specs.Values as search
 use Rattle.search.specs.Values.{Which, begun}
-use Rattle.sheet.specs.Sheet.{full, ended, Load, sheetOf}
+use Rattle.sheet.specs.Sheet.{full, ended, Load, stopping, sheetOf}
 use Rattle.meaning.specs.Demands.{valueIn, kindNumber, walkMoves, plainMoves, noMoves}
 use Rattle.day.specs.EndToEnd.{GoodBuild, tablesLeft, listed}
 
@@ -33,10 +34,10 @@ lastEnd p (m ∷ l) = lastEnd (m .end) l
 abbrev pub bytesTaken : List ℕ → ℕ → List (Match ℕ) → ℕ → ℕ
 bytesTaken text slots l p = pick (ltb (length l) slots) (length text) (lastEnd p (take slots l))
 
--- what a call comes to that finds these matches, from a value that has taken p bytes
+-- what a call comes to that finds these matches, from a value that has taken p bytes; a fresh one has taken none
 pub record Holds (moves : List ℕ → ℕ) (text : List ℕ) (slots : ℕ) (l : List (Match ℕ)) (p : ℕ) (load : Load) : Type 0 where
   -- the records are the first of them, as many as there are slots
-  pub written : load .records ≡ map recordIn (take slots l)
+  pub records-are : load .records ≡ map recordIn (take slots l)
   -- with a slot to spare the call is at the end, else the sheet is full
   pub stops : load .stop ≡ pick (ltb (length l) slots) ended full
   -- the value has taken the bytes up to the last match written, or the whole text
@@ -44,18 +45,23 @@ pub record Holds (moves : List ℕ → ℕ) (text : List ℕ) (slots : ℕ) (l :
   -- and has made the moves over just these bytes
   pub moved : load .value .moves ≡ moves (take (bytesTaken text slots l p) text)
 
+-- the sheets of a search that finds these matches
+pub record SheetDay {kind : ℕ} {bytes ends values : List ℕ} (b : GoodBuild kind bytes ends values) (w : Which) (moves : List ℕ → ℕ) (text : List ℕ)
+    (l : List (Match ℕ)) : Type 0 where
+  -- what a call of a fresh search comes to
+  pub holds : (slots : ℕ) → Holds moves text slots l 0 (sheet b w text slots)
+  -- after the end every further call with slots writes nothing and gives the end and the value again
+  pub end-again : (slots k : ℕ) → sheet b w text slots .stop ≡ ended
+      → sheetOf w (tablesLeft b) (b .counts .kind) text (suc k) (sheet b w text slots .value) ≡ stopping ended (sheet b w text slots .value)
+
 -- what is proved, for any pattern bytes, ends, values and tables at entry, any text of bytes within the limit, and any number of slots
-pub record SheetClaims : Type 0 where
+pub record SheetDayClaims : Type 0 where
   -- kind 0: the overlapping list, and the plain one
-  pub overlapping-sheet : (bytes ends values text : List ℕ) (b : GoodBuild 0 bytes ends values) → Bytes bytes → Bytes text → length text ≤ mostText
-      → (slots : ℕ)
-      → Holds (walkMoves (listed bytes ends)) text slots (withPayloads (valueIn values) (overlapping (listed bytes ends) text)) 0
-      (sheet b search.overlapping text slots)
-  pub plain-sheet : (bytes ends values text : List ℕ) (b : GoodBuild 0 bytes ends values) → Bytes bytes → Bytes text → length text ≤ mostText
-      → (slots : ℕ)
-      → Holds (plainMoves (listed bytes ends)) text slots (withPayloads (valueIn values) (plain (listed bytes ends) text)) 0 (sheet b search.plain text slots)
+  pub overlapping-sheets : (bytes ends values text : List ℕ) (b : GoodBuild 0 bytes ends values) → Bytes bytes → Bytes text → length text ≤ mostText
+      → SheetDay b search.overlapping (walkMoves (listed bytes ends)) text (withPayloads (valueIn values) (overlapping (listed bytes ends) text))
+  pub plain-sheets : (bytes ends values text : List ℕ) (b : GoodBuild 0 bytes ends values) → Bytes bytes → Bytes text → length text ≤ mostText
+      → SheetDay b search.plain (plainMoves (listed bytes ends)) text (withPayloads (valueIn values) (plain (listed bytes ends) text))
   -- kinds 1 and 2: the leftmost list
-  pub leftmost-sheet : (c : Choice) (bytes ends values text : List ℕ) (b : GoodBuild (kindNumber c) bytes ends values) → Bytes bytes → Bytes text
+  pub leftmost-sheets : (c : Choice) (bytes ends values text : List ℕ) (b : GoodBuild (kindNumber c) bytes ends values) → Bytes bytes → Bytes text
       → length text ≤ mostText
-      → (slots : ℕ)
-      → Holds noMoves text slots (withPayloads (valueIn values) (leftmostBy c (listed bytes ends) text)) 0 (sheet b search.leftmost text slots)
+      → SheetDay b search.leftmost noMoves text (withPayloads (valueIn values) (leftmostBy c (listed bytes ends) text))

@@ -2,6 +2,7 @@
 use mathlib.Core.Path.{_≡_, refl, sym, ap, _∙_}
 use mathlib.Core.Bool.{Bool, true, false}
 use mathlib.Core.List.{List, [], _∷_, _++_}
+use mathlib.Core.Logic.{_⊎_, ⊎-map}
 use mathlib.Core.Option.{Option, none, some}
 use Prim.Native.Nat.{ℕ, zero, suc, _+_, _≤_, _<_}
 use native.Mathlib.Nat.{not-suc-le-zero}
@@ -18,6 +19,7 @@ use Rattle.search.specs.declared.Refusal.the-variants as refusal
 use Rattle.search.specs.Values.{Which, Outcome, gives, ends, refuses}
 use Rattle.search.specs.Admission.{otherKind, atFirst}
 use Rattle.search.specs.Searches.{nextOf, unless, walkOf, isLeftmost}
+use Rattle.search.proofs.Claims as search
 use Rattle.sheet.specs.declared.Stop as declared
 use Rattle.sheet.specs.declared.Stop.the-variants as stop
 use Rattle.sheet.specs.declared.Filled.{Filled}
@@ -54,6 +56,11 @@ isFull : Stop → ℕ
 isFull full = 0
 isFull ended = 1
 isFull (refused n) = 2
+
+-- a value that the end of a call left
+pub record LeftByEnd (next : Search → Outcome) (x : Search) : Type 0 where
+  pub came : Search
+  pub ended-there : next came ≡ ends x
 
 -- a match goes on like that, in so many slots
 abbrev goesOn : (Search → Outcome) → ℕ → Match → Search → Load
@@ -99,7 +106,27 @@ module _ (next : Search → Outcome) where
       let one-more : suc n + k ≡ suc (n + k) = omega arith in
       ap (λ (j : ℕ). loadOf next j v) one-more ∙ joined-by n k (next v) (load-joined n k) e
 
+  -- a load that stops at the end has the value of an answer that is the end
+  ended-by : (n : ℕ) (v : Search) (o : Outcome) → next v ≡ o → ((u : Search) → loadOf next n u .stop ≡ ended → LeftByEnd next (loadOf next n u .value))
+      → onAnswer o (goesOn next n) .stop ≡ ended
+      → LeftByEnd next (onAnswer o (goesOn next n) .value)
+  unfolding isFull
+  ended-by n v (gives m u) q more e = more u e
+  ended-by n v (ends u) q more e = record { came = v; ended-there = q }
+  ended-by n v (refuses k u) q more e = absurd (omega (arith, ap isFull e))
+
+  pub load-ended : (n : ℕ) (v : Search) → loadOf next n v .stop ≡ ended → LeftByEnd next (loadOf next n v .value)
+  unfolding loadOf isFull
+  load-ended zero v e = absurd (omega (arith, ap isFull e))
+  load-ended (suc n) v e = ended-by n v (next v) refl (load-ended n) e
+
 -- ---- sheets
+
+-- an empty sheet is never at the end
+never-ended : (o : Option Told) → atOnce o ≡ ended → ⊥
+unfolding isFull
+never-ended none e = omega (arith, ap isFull e)
+never-ended (some t) e = omega (arith, ap isFull e)
 
 isSome : Option Told → ℕ
 isSome none = 0
@@ -138,6 +165,22 @@ module _ (w : Which) (T : Tables) (kind : ℕ) (text : List ℕ) (v : Search) wh
   sheet-told (suc n) t e =
       ap (λ (o : Option Told). onAnswer (unless o v (walkOf w T text v)) (goesOn (nextOf w T kind text) n)) (first-of _ _ _ t e)
 
+  -- a call with slots on a value that has the end, or damage, at once
+  pub sheet-once : (k : ℕ) (x : Search) (o : Outcome) → nextOf w T kind text x ≡ o
+      → sheetOf w T kind text (suc k) x ≡ onAnswer o (goesOn (nextOf w T kind text) k)
+  unfolding sheetOf loadOf
+  sheet-once k x o q = ap (λ (a : Outcome). onAnswer a (goesOn (nextOf w T kind text) k)) q
+
+  sheet-again : (n k : ℕ) → sheetOf w T kind text n v .stop ≡ ended
+      → (sheetOf w T kind text (suc k) (sheetOf w T kind text n v .value) ≡ stopping ended (sheetOf w T kind text n v .value))
+      ⊎ (sheetOf w T kind text (suc k) (sheetOf w T kind text n v .value) ≡ stopping (refused 11) (sheetOf w T kind text n v .value))
+  unfolding sheetOf
+  sheet-again zero k e = absurd (never-ended (lowest (barred (isLeftmost w) kind (length text))) e)
+  sheet-again (suc n) k e =
+      let E = load-ended (nextOf w T kind text) (suc n) v e in
+      let x = loadOf (nextOf w T kind text) (suc n) v .value in
+      ⊎-map (λ q. sheet-once k x (ends x) q) (λ q. sheet-once k x (refuses 11 x) q) (search.claims w T kind text (E .came) .end-again x (E .ended-there))
+
   pub claims : SheetClaims w T kind text v
   claims =
       record {
@@ -145,5 +188,6 @@ module _ (w : Which) (T : Tables) (kind : ℕ) (text : List ℕ) (v : Search) wh
         within = sheet-within;
         full-slots = sheet-full;
         joined = sheet-joined;
+        end-again = sheet-again;
         told-first = sheet-told;
       }

@@ -2,6 +2,7 @@
 -- told in the crate `day`.
 use mathlib.Core.Path.{_≡_}
 use mathlib.Core.List.{List, _++_}
+use mathlib.Core.Logic.{_⊎_}
 use mathlib.Core.Option.{some}
 use Prim.Native.Nat.{ℕ, suc, _+_, _≤_}
 use lib.ListN.{length}
@@ -11,7 +12,7 @@ use Rattle.search.specs.declared.Search.{Search}
 use Rattle.search.specs.Values.{Which}
 use Rattle.search.specs.Searches.{isLeftmost}
 use Rattle.sheet.specs.declared.Filled.{Filled}
-use Rattle.sheet.specs.Sheet.{Load, full, refused, stopping, barred, sheetOf, Tells}
+use Rattle.sheet.specs.Sheet.{Load, full, ended, refused, stopping, barred, sheetOf, Tells}
 
 -- these records before those of a load
 abbrev pub after : List (List ℕ) → Load → Load
@@ -27,5 +28,9 @@ pub record SheetClaims (w : Which) (T : Tables) (kind : ℕ) (text : List ℕ) (
   -- records over several calls, joined, are those of one call: after a full sheet, a further one goes on as a longer sheet would have
   pub joined : (n k : ℕ) → sheetOf w T kind text n v .stop ≡ full
       → sheetOf w T kind text (n + suc k) v ≡ after (sheetOf w T kind text n v .records) (sheetOf w T kind text (suc k) (sheetOf w T kind text n v .value))
+  -- after the end a further call with slots writes nothing and gives the end and the value again, unless it meets damage
+  pub end-again : (n k : ℕ) → sheetOf w T kind text n v .stop ≡ ended
+      → (sheetOf w T kind text (suc k) (sheetOf w T kind text n v .value) ≡ stopping ended (sheetOf w T kind text n v .value))
+      ⊎ (sheetOf w T kind text (suc k) (sheetOf w T kind text n v .value) ≡ stopping (refused 11) (sheetOf w T kind text n v .value))
   -- 9 and 10 are told whatever slots there are, with no record and the value as it was
   pub told-first : (n : ℕ) (t : Told) → lowest (barred (isLeftmost w) kind (length text)) ≡ some t → sheetOf w T kind text n v ≡ stopping (refused (t .number)) v
