@@ -13,6 +13,8 @@ if command -v cargo > /dev/null 2>&1 && [ -f "$archive" ]; then
         exit 1
     }
     echo "rust: the tests of the crate pass"
+else
+    echo "rust: not run, there is no cargo here or no static library"
 fi
 for run in differential damage; do
     status=0
