@@ -6,43 +6,46 @@ use Rattle.replay.proofs.tables.compare_part.Statement.{statement}
 use Rattle.replay.proofs.tables.compare_part.Tie as tie
 
 abbrev Inv-loop : tie.InvT-loop
-Inv-loop numbers base link output check from end width at₀ k₀ t15 at k = Unit {0}
+Inv-loop numbers what from index table lent rest at₀ k₀ at k = Unit {0}
 
 abbrev μ-loop : tie.MeasureT-loop
-μ-loop numbers base link output check from end width at₀ k₀ t15 at k = end - k
+μ-loop numbers what from index table lent rest at₀ k₀ at k = lent - k
 
 loop-holds : tie.Need-loop-holds Inv-loop μ-loop
 loop-holds c = tt
 
-recorded-cell-requires : tie.Need-recorded-cell-requires Inv-loop μ-loop
-recorded-cell-requires c κs = tt
+fail-requires : tie.Need-fail-requires Inv-loop μ-loop
+fail-requires c κs = tt
 
-cast-built-cell : tie.Need-cast-built-cell Inv-loop μ-loop
-cast-built-cell c = omega arith
+returns : tie.Need-returns Inv-loop μ-loop
+returns c = tt
 
-built-cell-requires : tie.Need-built-cell-requires Inv-loop μ-loop
-built-cell-requires c κs = tt
+mul-wide : tie.Need-mul-wide Inv-loop μ-loop
+mul-wide c = search needs
 
-are-same-requires : tie.Need-are-same-requires Inv-loop μ-loop
-are-same-requires c κs = tt
+shared-slice-read-wide : tie.Need-shared-slice-read-wide Inv-loop μ-loop
+shared-slice-read-wide c = search needs
 
-slice-aggregate-judge-next : tie.Need-slice-aggregate-judge-next Inv-loop μ-loop
-slice-aggregate-judge-next c = search needs
+wide-requires : tie.Need-wide-requires Inv-loop μ-loop
+wide-requires c κs = tt
 
-judge-next-requires : tie.Need-judge-next-requires Inv-loop μ-loop
-judge-next-requires c κs = tt
+due-requires : tie.Need-due-requires Inv-loop μ-loop
+due-requires c κs = tt
+
+wrapping-add-usize-requires : tie.Need-wrapping-add-usize-requires Inv-loop μ-loop
+wrapping-add-usize-requires c κs = tt
+
+judge-requires : tie.Need-judge-requires Inv-loop μ-loop
+judge-requires c κs = tt
 
 add-k : tie.Need-add-k Inv-loop μ-loop
-add-k c = omega (arith, c .before .before .before .before .before .before .before .before .before .before .fits)
+add-k c = omega arith
 
 loop-less : tie.Need-loop-less Inv-loop μ-loop
 loop-less c = omega arith
 
 loop-again : tie.Need-loop-again Inv-loop μ-loop
 loop-again c = tt
-
-returns : tie.Need-returns Inv-loop μ-loop
-returns c = tt
 
 returns-2 : tie.Need-returns-2 Inv-loop μ-loop
 returns-2 c = tt
@@ -54,14 +57,15 @@ compare-part-spec =
     Inv-loop
     μ-loop
     loop-holds
-    recorded-cell-requires
-    cast-built-cell
-    built-cell-requires
-    are-same-requires
-    slice-aggregate-judge-next
-    judge-next-requires
+    fail-requires
+    returns
+    mul-wide
+    shared-slice-read-wide
+    wide-requires
+    due-requires
+    wrapping-add-usize-requires
+    judge-requires
     add-k
     loop-less
     loop-again
-    returns
     returns-2)
