@@ -113,7 +113,7 @@ pub record CaseTable : Type 0 where
   pub p8-longest : Case leftmost (under 1 twins (5 ∷ 7 ∷ [])) (bytes "ab") 2 3 (at 0 2 5 ∷ []) 0
   -- P9 no patterns, no text
   pub p9 : Case overlapping (under 0 [] []) [] 0 1 [] 0
-  -- the edges that are refused: 65 bytes, 1,025 listed, 255 cells lent; the program `edges` runs them, and those that are accepted
+  -- the edges that are refused: 65 bytes, 1,025 listed, 255 cells lent; the program `replay` runs them, and those that are accepted
   pub edge-bytes : builds (under 0 (replicate 65 97 ∷ []) (0 ∷ [])) ample ≡ refused (record { number = 5; index = 0 })
   pub edge-listed : builds (under 0 (replicate 1025 (bytes "a")) (replicate 1025 0)) ample ≡ refusal 3
   pub edge-cells : builds three (slots 70000 255 70000) ≡ refusal 7
