@@ -1,5 +1,6 @@
-//! The sample's notation: decimal numbers between blanks and line ends, and
-//! remarks from `#` to the end of the line. README.md tells the exact order.
+//! The sample's notation: decimal numbers between blanks and line ends, remarks
+//! from `#` to the end of the line, and a semicolon after each case. The sample's
+//! head (`sample.rs`) tells the exact order, README.md that of a question.
 
 use crate::damage::{Answer, Counts, Tables, Value};
 use crate::lent::{LentList, Slots};
@@ -51,7 +52,7 @@ impl Writer {
 
     pub fn line(&mut self, numbers: &[u32]) {
         self.end_line();
-        numbers.iter().for_each(|number| self.number(*number));
+        self.numbers(numbers);
         self.end_line();
     }
 

@@ -2,13 +2,14 @@
 use crate::given::COUNTS;
 use crate::given::recorded_counts;
 use crate::run::Run;
+use crate::run::fail;
 use crate::run::judge;
 use crate::run::number;
 use crate::run::pass;
 use crate::searches::compare_texts;
+use crate::sequences::at_most;
 use crate::sequences::fill_bytes;
 use crate::sequences::fill_words;
-use crate::sequences::part;
 use crate::tables::Lent;
 use crate::tables::compare_bytes;
 use crate::tables::compare_rows;
@@ -41,7 +42,7 @@ const TABLES: usize = 10;
 fn slots(numbers: &[u32], at: usize, table: usize, room: usize) -> usize
     ensures { λ r. ⌜ r ≤ room ⌝ }
 {
-    part(number(numbers, at, table) as usize, room)
+    at_most(number(numbers, at, table) as usize, room)
 }
 
 fn recorded_lent(numbers: &[u32], at: usize) -> Lent
@@ -62,15 +63,36 @@ fn recorded_lent(numbers: &[u32], at: usize) -> Lent
     }
 }
 
+fn fits(numbers: &[u32], at: usize, table: usize, room: usize) -> bool {
+    number(numbers, at, table) as usize <= room
+}
+
+// A case that lends more than there is room for cannot be run.
+fn with_room(numbers: &[u32], run: Run) -> Run {
+    let at = run.place;
+    let states = fits(numbers, at, 0, STATES) & fits(numbers, at, 2, STATES);
+    let outputs = fits(numbers, at, 1, OUTPUTS) & fits(numbers, at, 9, OUTPUTS);
+    let first = fits(numbers, at, 3, CELLS)
+        & fits(numbers, at, 4, CELLS)
+        & fits(numbers, at, 5, CELLS);
+    let last = fits(numbers, at, 6, CELLS)
+        & fits(numbers, at, 7, CELLS)
+        & fits(numbers, at, 8, CELLS);
+    if states & outputs & first & last {
+        return run;
+    }
+    fail(run)
+}
+
 // A build's answer in numbers: the refusal or 0, the index that 4 and 5 name, and the counts, which a refusal has none of.
-struct Heard {
+struct BuildAnswer {
     refusal: u32,
     index: u32,
     counts: Counts,
 }
 
-fn refused(refusal: u32, index: u32) -> Heard {
-    Heard {
+fn refused(refusal: u32, index: u32) -> BuildAnswer {
+    BuildAnswer {
         refusal,
         index,
         counts: Counts {
@@ -82,9 +104,9 @@ fn refused(refusal: u32, index: u32) -> Heard {
     }
 }
 
-fn in_numbers(built: Built) -> Heard {
+fn build_answer(built: Built) -> BuildAnswer {
     match built {
-        Built::Made(counts) => Heard {
+        Built::Made(counts) => BuildAnswer {
             refusal: 0,
             index: 0,
             counts,
@@ -120,7 +142,7 @@ fn compare_counts(run: Run, due: Counts, here: Counts) -> Run {
 }
 
 // Refusal, index and counts.
-fn compare_heard(numbers: &[u32], run: Run, here: Heard) -> Run {
+fn compare_answer(numbers: &[u32], run: Run, here: BuildAnswer) -> Run {
     let at = run.place;
     let begun = pass(run, 2 + COUNTS);
     let refusal = judge(
@@ -173,7 +195,7 @@ fn compare_columns(
 fn compare_made(
     numbers: &[u32],
     run: Run,
-    here: Heard,
+    here: BuildAnswer,
     trie: &[[u32; 5]; STATES],
     owns: &[[u32; 2]; OUTPUTS],
     notes: &[[u32; 6]; STATES],
@@ -188,7 +210,7 @@ fn compare_made(
     shown: bool,
 ) -> Run {
     let rest = left(here.refusal);
-    let mut at = compare_heard(numbers, run, here);
+    let mut at = compare_answer(numbers, run, here);
     if shown {
         at = compare_columns(numbers, at, base, link, output, check, depth, lent, rest);
     }
@@ -247,7 +269,7 @@ fn compare_build(
     compare_made(
         numbers,
         pass(run, TABLES),
-        in_numbers(built),
+        build_answer(built),
         &trie,
         &owns,
         &notes,
@@ -272,12 +294,12 @@ pub(crate) fn compare_built(numbers: &[u32], run: Run, shown: bool) -> Run {
     let byte = fill_bytes(numbers, pass(run, 1), &mut bytes);
     let end = fill_words(numbers, byte.run, &mut ends);
     let value = fill_words(numbers, end.run, &mut values);
-    let bytes_end = part(byte.length, BYTES);
-    let ends_end = part(end.length, LISTED);
-    let values_end = part(value.length, LISTED);
+    let bytes_end = at_most(byte.length, BYTES);
+    let ends_end = at_most(end.length, LISTED);
+    let values_end = at_most(value.length, LISTED);
     compare_build(
         numbers,
-        value.run,
+        with_room(numbers, value.run),
         kind,
         &bytes[..bytes_end],
         &ends[..ends_end],

@@ -3,10 +3,10 @@ use crate::run::Run;
 use crate::run::number;
 use crate::run::pass;
 use crate::searches::compare_texts;
+use crate::sequences::at_most;
 use crate::sequences::fill_bytes;
 use crate::sequences::fill_rows;
 use crate::sequences::fill_words;
-use crate::sequences::part;
 use table::Counts;
 use table::Depth;
 
@@ -42,12 +42,12 @@ pub(crate) fn compare_given(numbers: &[u32], run: Run) -> Run {
     let checks = fill_bytes(numbers, outputs.run, &mut check);
     let depths = fill_bytes(numbers, checks.run, &mut depth);
     let rows = fill_rows(numbers, depths.run, &mut outs);
-    let base_end = part(bases.length, CELLS);
-    let link_end = part(links.length, CELLS);
-    let output_end = part(outputs.length, CELLS);
-    let check_end = part(checks.length, CELLS);
-    let depth_end = part(depths.length, CELLS);
-    let outs_end = part(rows.length, OUTPUTS);
+    let base_end = at_most(bases.length, CELLS);
+    let link_end = at_most(links.length, CELLS);
+    let output_end = at_most(outputs.length, CELLS);
+    let check_end = at_most(checks.length, CELLS);
+    let depth_end = at_most(depths.length, CELLS);
+    let outs_end = at_most(rows.length, OUTPUTS);
     compare_texts(
         numbers,
         rows.run,

@@ -25,7 +25,7 @@ use run::print_number;
 use run::say;
 use std::num::wrapping_add_u32;
 
-// What a case begins with: a list that is built, with or without what its tables hold, or tables.
+// What a case begins with: a list that is built, with its cells recorded or not, or tables that are searched as they are.
 const BUILT: u32 = 1;
 
 const UNSEEN: u32 = 2;
@@ -91,7 +91,7 @@ fn main() {
         broken: false,
         agreed: 0,
         differing: 0,
-        told: 0,
+        last_told: 0,
     };
     let mut turns = u64::MAX;
     while turns > 0 && reading.within == WHOLE {

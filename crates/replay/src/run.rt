@@ -13,7 +13,7 @@ pub(crate) struct Run {
     pub agreed: u32,
     pub differing: u32,
     // The last case of which a difference was told.
-    pub told: u32,
+    pub last_told: u32,
 }
 
 pub(crate) fn fail(run: Run) -> Run {
@@ -53,11 +53,11 @@ pub(crate) fn print_number(text: &[u8], n: u64) {
     io::print_decimal(1, n);
 }
 
-// Counts a difference, and answers whether it is the first of its case: that one is told.
+// Counts a difference. Only the first of a case is told, since others may be its echo.
 pub(crate) fn differ(run: Run) -> Run {
     let mut next = run;
     next.differing = wrapping_add_u32(run.differing, 1);
-    next.told = run.case;
+    next.last_told = run.case;
     next
 }
 
@@ -82,7 +82,7 @@ pub(crate) fn judge(run: Run, what: &[u8], index: usize, due: u64, here: u64) ->
         next.agreed = wrapping_add_u32(run.agreed, 1);
         return next;
     }
-    if run.told != run.case {
+    if run.last_told != run.case {
         tell(run, what, index, due, here);
     }
     differ(run)

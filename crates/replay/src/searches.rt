@@ -4,8 +4,8 @@ use crate::run::Run;
 use crate::run::judge;
 use crate::run::number;
 use crate::run::pass;
+use crate::sequences::at_most;
 use crate::sequences::fill_bytes;
-use crate::sequences::part;
 use search::Answer;
 use search::Refusal;
 use search::Search;
@@ -29,8 +29,8 @@ const MATCH: u32 = 1;
 const END: u32 = 2;
 
 // An answer in numbers. The match is 0 where there is none.
-struct Heard {
-    what: u32,
+struct SearchAnswer {
+    tag: u32,
     start: u64,
     end: u64,
     value: u32,
@@ -45,9 +45,9 @@ fn number_of(refusal: Refusal) -> u32 {
     }
 }
 
-fn without_match(what: u32, next: Search) -> Heard {
-    Heard {
-        what,
+fn without_match(tag: u32, next: Search) -> SearchAnswer {
+    SearchAnswer {
+        tag,
         start: 0,
         end: 0,
         value: 0,
@@ -55,10 +55,10 @@ fn without_match(what: u32, next: Search) -> Heard {
     }
 }
 
-fn in_numbers(answer: Answer) -> Heard {
+fn search_answer(answer: Answer) -> SearchAnswer {
     match answer {
-        Answer::Match(found, next) => Heard {
-            what: MATCH,
+        Answer::Match(found, next) => SearchAnswer {
+            tag: MATCH,
             start: found.start as u64,
             end: found.end as u64,
             value: found.value,
@@ -81,9 +81,9 @@ fn ask(
     outs: &[[u32; 3]],
     counts: Counts,
     text: &[u8],
-) -> Heard {
+) -> SearchAnswer {
     if which == OVERLAPPING {
-        return in_numbers(value.next_overlapping(
+        return search_answer(value.next_overlapping(
             base,
             link,
             output,
@@ -95,9 +95,18 @@ fn ask(
         ));
     }
     if which == PLAIN {
-        return in_numbers(value.next_plain(base, link, output, check, depth, outs, counts, text));
+        return search_answer(value.next_plain(
+            base,
+            link,
+            output,
+            check,
+            depth,
+            outs,
+            counts,
+            text,
+        ));
     }
-    in_numbers(value.next_leftmost(base, link, output, check, depth, outs, counts, text))
+    search_answer(value.next_leftmost(base, link, output, check, depth, outs, counts, text))
 }
 
 // Two numbers make one of 64 bits, the high half first.
@@ -128,24 +137,24 @@ fn recorded_value(numbers: &[u32], at: usize) -> Search {
 }
 
 // A refusal hands back the value as it came in, and nothing is recorded beside its number.
-fn recorded_answer(numbers: &[u32], at: usize, value: Search) -> Heard {
-    let what = number(numbers, at, 0);
-    match what {
-        MATCH => Heard {
-            what,
+fn recorded_answer(numbers: &[u32], at: usize, value: Search) -> SearchAnswer {
+    let tag = number(numbers, at, 0);
+    match tag {
+        MATCH => SearchAnswer {
+            tag,
             start: number(numbers, at, 1) as u64,
             end: number(numbers, at, 2) as u64,
             value: number(numbers, at, 3),
             next: recorded_value(numbers, wrapping_add_usize(at, 4)),
         },
-        END => without_match(what, recorded_value(numbers, wrapping_add_usize(at, 1))),
-        _ => without_match(what, value),
+        END => without_match(tag, recorded_value(numbers, wrapping_add_usize(at, 1))),
+        _ => without_match(tag, value),
     }
 }
 
 // How many numbers tell an answer.
-fn width(what: u32) -> usize {
-    match what {
+fn width(tag: u32) -> usize {
+    match tag {
         MATCH => 8,
         END => 5,
         _ => 1,
@@ -177,15 +186,15 @@ fn compare_value(run: Run, call: usize, due: Search, here: Search) -> Run {
     judge(place, b"moves after call", call, due.moves, here.moves)
 }
 
-fn compare_answer(run: Run, call: usize, due: Heard, here: Heard) -> Run {
-    let what = judge(
+fn compare_answer(run: Run, call: usize, due: SearchAnswer, here: SearchAnswer) -> Run {
+    let sort = judge(
         run,
         b"answer of call",
         call,
-        due.what as u64,
-        here.what as u64,
+        due.tag as u64,
+        here.tag as u64,
     );
-    let start = judge(what, b"start of match", call, due.start, here.start);
+    let start = judge(sort, b"start of match", call, due.start, here.start);
     let end = judge(start, b"end of match", call, due.end, here.end);
     let value = judge(
         end,
@@ -231,7 +240,7 @@ fn compare_course(
             counts,
             text,
         );
-        at = compare_answer(pass(at, width(due.what)), i as usize, due, here);
+        at = compare_answer(pass(at, width(due.tag)), i as usize, due, here);
         value = here.next;
         i += 1;
     }
@@ -309,7 +318,7 @@ fn compare_text(
 ) -> Run {
     let mut text = [0u8; TEXT];
     let filled = fill_bytes(numbers, run, &mut text);
-    let end = part(filled.length, TEXT);
+    let end = at_most(filled.length, TEXT);
     compare_searches(
         numbers,
         filled.run,

@@ -56,8 +56,8 @@ fn unread(run: Run) -> Filled {
     }
 }
 
-// What is filled of a table that has so much room. No table gets more.
-pub(crate) fn part(filled: usize, room: usize) -> usize
+// What is filled or lent of a table that has so much room.
+pub(crate) fn at_most(filled: usize, room: usize) -> usize
     ensures { λ r. ⌜ r ≤ room ⌝ }
 {
     if filled < room { filled } else { room }
@@ -110,7 +110,7 @@ pub(crate) fn thrice(k: usize) -> usize {
 }
 
 // Row k of a sequence of rows, all of which are told: three numbers, or none past the last row.
-pub(crate) fn row(from: Sequence, k: usize) -> Sequence {
+pub(crate) fn row_of(from: Sequence, k: usize) -> Sequence {
     let size = if k < from.length / 3 { 3 } else { 0 };
     Sequence {
         length: size,
@@ -128,7 +128,7 @@ pub(crate) fn fill_rows(numbers: &[u32], run: Run, table: &mut [[u32; 3]]) -> Fi
     }
     let mut k = 0;
     while k < size {
-        let at = row(from, k).first;
+        let at = row_of(from, k).first;
         table[k] = [
             number(numbers, at, 0),
             number(numbers, at, 1),

@@ -6,7 +6,7 @@ use crate::run::judge;
 use crate::sequences::Sequence;
 use crate::sequences::element;
 use crate::sequences::past;
-use crate::sequences::row;
+use crate::sequences::row_of;
 use crate::sequences::sequence_at;
 use crate::sequences::thrice;
 use crate::sequences::twice;
@@ -36,7 +36,7 @@ fn code(byte: u8) -> u64 {
 }
 
 // A part of a table whose first element has that index.
-fn compare_part(
+fn compare_elements(
     numbers: &[u32],
     run: Run,
     what: &[u8],
@@ -70,7 +70,7 @@ pub(crate) fn compare_words(
 ) -> Run {
     let from = sequence_at(numbers, run.place);
     past(
-        compare_part(numbers, run, what, from, 0, table, lent, rest),
+        compare_elements(numbers, run, what, from, 0, table, lent, rest),
         from,
     )
 }
@@ -123,7 +123,7 @@ fn compare_pair(
 ) -> Run {
     if k < lent {
         if k < table.len() {
-            return compare_part(numbers, run, what, NOTHING, twice(k), &table[k], 2, rest);
+            return compare_elements(numbers, run, what, NOTHING, twice(k), &table[k], 2, rest);
         }
     }
     run
@@ -141,11 +141,11 @@ fn compare_triple(
 ) -> Run {
     if k < lent {
         if k < table.len() {
-            return compare_part(
+            return compare_elements(
                 numbers,
                 run,
                 what,
-                row(from, k),
+                row_of(from, k),
                 thrice(k),
                 &table[k],
                 3,
@@ -168,7 +168,7 @@ fn compare_five(
     if k < lent {
         if k < table.len() {
             let index = wrapping_add_usize(twice(k), thrice(k));
-            return compare_part(numbers, run, what, NOTHING, index, &table[k], 5, rest);
+            return compare_elements(numbers, run, what, NOTHING, index, &table[k], 5, rest);
         }
     }
     run
@@ -186,7 +186,7 @@ fn compare_six(
     if k < lent {
         if k < table.len() {
             let index = twice(thrice(k));
-            return compare_part(numbers, run, what, NOTHING, index, &table[k], 6, rest);
+            return compare_elements(numbers, run, what, NOTHING, index, &table[k], 6, rest);
         }
     }
     run

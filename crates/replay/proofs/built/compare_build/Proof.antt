@@ -80,8 +80,8 @@ build-requires c κs = tt
 pass-requires : tie.Need-pass-requires
 pass-requires c κs = tt
 
-in-numbers-requires : tie.Need-in-numbers-requires
-in-numbers-requires c κs = tt
+build-answer-requires : tie.Need-build-answer-requires
+build-answer-requires c κs = tt
 
 compare-made-requires : tie.Need-compare-made-requires
 compare-made-requires c κs = tt
@@ -118,6 +118,6 @@ compare-build-spec =
     slice-aggregate-build-10
     build-requires
     pass-requires
-    in-numbers-requires
+    build-answer-requires
     compare-made-requires
     returns)

@@ -29,14 +29,17 @@ slice-aggregate-fill-words-2 c = search needs
 fill-words-requires-2 : tie.Need-fill-words-requires-2
 fill-words-requires-2 c κs = tt
 
-part-requires : tie.Need-part-requires
-part-requires c κs = tt
+at-most-requires : tie.Need-at-most-requires
+at-most-requires c κs = tt
 
-part-requires-2 : tie.Need-part-requires-2
-part-requires-2 c κs = tt
+at-most-requires-2 : tie.Need-at-most-requires-2
+at-most-requires-2 c κs = tt
 
-part-requires-3 : tie.Need-part-requires-3
-part-requires-3 c κs = tt
+at-most-requires-3 : tie.Need-at-most-requires-3
+at-most-requires-3 c κs = tt
+
+with-room-requires : tie.Need-with-room-requires
+with-room-requires c κs = tt
 
 array-share-prefix-bytes : tie.Need-array-share-prefix-bytes
 array-share-prefix-bytes c = search needs
@@ -74,9 +77,10 @@ compare-built-spec =
     fill-words-requires
     slice-aggregate-fill-words-2
     fill-words-requires-2
-    part-requires
-    part-requires-2
-    part-requires-3
+    at-most-requires
+    at-most-requires-2
+    at-most-requires-3
+    with-room-requires
     array-share-prefix-bytes
     slice-aggregate-compare-build
     array-share-prefix-ends

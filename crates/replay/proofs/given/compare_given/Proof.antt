@@ -48,32 +48,32 @@ slice-aggregate-fill-rows c = search needs
 fill-rows-requires : tie.Need-fill-rows-requires
 fill-rows-requires c κs = tt
 
-part-requires : tie.Need-part-requires
-part-requires c κs = tt
+at-most-requires : tie.Need-at-most-requires
+at-most-requires c κs = tt
 
-part-requires-2 : tie.Need-part-requires-2
-part-requires-2 c κs = tt
+at-most-requires-2 : tie.Need-at-most-requires-2
+at-most-requires-2 c κs = tt
 
-part-requires-3 : tie.Need-part-requires-3
-part-requires-3 c κs = tt
+at-most-requires-3 : tie.Need-at-most-requires-3
+at-most-requires-3 c κs = tt
 
-part-requires-4 : tie.Need-part-requires-4
-part-requires-4 c κs = tt
+at-most-requires-4 : tie.Need-at-most-requires-4
+at-most-requires-4 c κs = tt
 
-part-requires-5 : tie.Need-part-requires-5
-part-requires-5 c κs = tt
+at-most-requires-5 : tie.Need-at-most-requires-5
+at-most-requires-5 c κs = tt
 
-part-requires-6 : tie.Need-part-requires-6
-part-requires-6 c κs = tt
+at-most-requires-6 : tie.Need-at-most-requires-6
+at-most-requires-6 c κs = tt
 
 array-share-prefix-base : tie.Need-array-share-prefix-base
-array-share-prefix-base c = omega (arith, c .before .before .before .before .before .part .ensures, c .before .before .before .before .before .before .before .before .before .before .before .before .before .before .before .before .before .before .before .before .before .before .fill-words .kept .1 .1 .0)
+array-share-prefix-base c = omega (arith, c .before .before .before .before .before .at-most .ensures, c .before .before .before .before .before .before .before .before .before .before .before .before .before .before .before .before .before .before .before .before .before .before .fill-words .kept .1 .1 .0)
 
 slice-aggregate-compare-texts : tie.Need-slice-aggregate-compare-texts
 slice-aggregate-compare-texts c = sym (length-take-le _ _ (array-share-prefix-base (c .before)))
 
 array-share-prefix-link : tie.Need-array-share-prefix-link
-array-share-prefix-link c = omega (arith, c .before .before .before .before .before .part2 .ensures, c .before .before .before .before .before .before .before .before .before .before .before .before .before .before .before .before .before .before .before .before .fill-words2 .kept .1 .1 .0)
+array-share-prefix-link c = omega (arith, c .before .before .before .before .before .at-most2 .ensures, c .before .before .before .before .before .before .before .before .before .before .before .before .before .before .before .before .before .before .before .before .fill-words2 .kept .1 .1 .0)
 
 slice-aggregate-compare-texts-2 : tie.Need-slice-aggregate-compare-texts-2
 slice-aggregate-compare-texts-2 c = sym (length-take-le _ _ (array-share-prefix-link (c .before)))
@@ -126,12 +126,12 @@ compare-given-spec =
     fill-bytes-requires-2
     slice-aggregate-fill-rows
     fill-rows-requires
-    part-requires
-    part-requires-2
-    part-requires-3
-    part-requires-4
-    part-requires-5
-    part-requires-6
+    at-most-requires
+    at-most-requires-2
+    at-most-requires-3
+    at-most-requires-4
+    at-most-requires-5
+    at-most-requires-6
     array-share-prefix-base
     slice-aggregate-compare-texts
     array-share-prefix-link

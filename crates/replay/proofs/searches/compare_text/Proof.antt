@@ -11,8 +11,8 @@ slice-aggregate-fill-bytes c = search needs
 fill-bytes-requires : tie.Need-fill-bytes-requires
 fill-bytes-requires c κs = tt
 
-part-requires : tie.Need-part-requires
-part-requires c κs = tt
+at-most-requires : tie.Need-at-most-requires
+at-most-requires c κs = tt
 
 array-share-prefix-text : tie.Need-array-share-prefix-text
 array-share-prefix-text c = search needs
@@ -32,7 +32,7 @@ compare-text-spec =
     (tie.spec
     slice-aggregate-fill-bytes
     fill-bytes-requires
-    part-requires
+    at-most-requires
     array-share-prefix-text
     slice-aggregate-compare-searches
     compare-searches-requires

@@ -25,8 +25,8 @@ returns c = search needs
 loop-holds : tie.Need-loop-holds Inv-loop μ-loop
 loop-holds c = search needs
 
-row-requires : tie.Need-row-requires Inv-loop μ-loop
-row-requires c κs = tt
+row-of-requires : tie.Need-row-of-requires Inv-loop μ-loop
+row-of-requires c κs = tt
 
 number-requires : tie.Need-number-requires Inv-loop μ-loop
 number-requires c κs = tt
@@ -71,7 +71,7 @@ fill-rows-spec =
     unread-requires
     returns
     loop-holds
-    row-requires
+    row-of-requires
     number-requires
     number-requires-2
     number-requires-3

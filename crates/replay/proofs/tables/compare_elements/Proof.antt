@@ -1,9 +1,9 @@
--- `tables::compare_part` ends: it counts up to a number that stays.
+-- `tables::compare_elements` ends: it counts up to a number that stays.
 use Prim.Native.Nat.{_-_}
 use native.Mathlib.Omega.{arith}
 use borrow.Author.Needs.{needs}
-use Rattle.replay.proofs.tables.compare_part.Statement.{statement}
-use Rattle.replay.proofs.tables.compare_part.Tie as tie
+use Rattle.replay.proofs.tables.compare_elements.Statement.{statement}
+use Rattle.replay.proofs.tables.compare_elements.Tie as tie
 
 abbrev Inv-loop : tie.InvT-loop
 Inv-loop numbers what from index table lent rest at₀ k₀ at k = Unit {0}
@@ -50,8 +50,8 @@ loop-again c = tt
 returns-2 : tie.Need-returns-2 Inv-loop μ-loop
 returns-2 c = tt
 
-pub compare-part-spec : {M : Type 1} → statement M
-compare-part-spec =
+pub compare-elements-spec : {M : Type 1} → statement M
+compare-elements-spec =
     tie.close
     (tie.spec
     Inv-loop
