@@ -154,7 +154,7 @@ impl Writer {
     fn answer(&mut self, answer: &Answer) {
         match answer {
             Answer::Match(found, _) => {
-                self.numbers(&[1, found.start as u32, found.end as u32, found.value]);
+                self.numbers(&[1, small(found.start), small(found.end), found.value]);
             }
             Answer::End(_) => self.number(2),
             Answer::Refused(number, _) => return self.number(*number),
@@ -163,10 +163,14 @@ impl Writer {
         self.numbers(&[
             next.state,
             next.output,
-            next.place as u32,
-            next.moves as u32,
+            small(next.place),
+            small(next.moves),
         ]);
     }
+}
+
+fn small(number: u64) -> u32 {
+    u32::try_from(number).expect("what was walked to is small")
 }
 
 /// The smallest distance at which every number is the one before it.
