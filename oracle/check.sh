@@ -1,8 +1,7 @@
 #!/bin/sh
 # Builds the oracle, runs the case table and a short comparison, and remakes the
-# sample and the lines on wild cases beside the recorded ones. Without cargo or the
-# crate's source there is nothing to run: build.sh says so in a line, and that is no
-# failure.
+# sample beside the recorded one. Without cargo or the crate's source there is
+# nothing to run: build.sh says so in a line, and that is no failure.
 set -eu
 
 here=$(cd "$(dirname "$0")" && pwd)
@@ -19,6 +18,3 @@ oracle="$out/build/release/oracle"
 "$oracle" sample > "$out/sample.txt"
 cmp "$out/sample.txt" "$here/sample.txt"
 echo "sample: remade byte for byte"
-"$oracle" wild > "$out/wild.txt"
-cmp "$out/wild.txt" "$here/../crates/wild/stdout"
-echo "wild: remade byte for byte"

@@ -4,8 +4,6 @@
 mod damage;
 mod differential;
 mod left;
-mod list;
-mod refusals;
 mod slots;
 
 use std::io::Write;

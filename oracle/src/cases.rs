@@ -3,7 +3,7 @@
 
 use crate::compare::{answers, difference, Answers};
 use crate::families::fixed;
-use crate::model::{limit, Model};
+use crate::model::Model;
 use crate::question::Question;
 use crate::tables::{Cell, Found, Match, Output, Tables};
 use crate::tables::{LEFTMOST_FIRST, LEFTMOST_LONGEST, STANDARD};
@@ -121,7 +121,7 @@ impl Table {
         ];
         for (question, said) in edges {
             let given = self.ask(&question)?;
-            let refusal = limit(&question.list, given.tables.cells.len());
+            let refusal = given.refusal.map_or(0, |(number, _)| number);
             self.agree(&question.name, refusal, said)?;
         }
         Ok(())

@@ -2,7 +2,7 @@
 //! document 01 by probes and links. The model counts it over strings; that both
 //! counts agree is asked in every comparison.
 
-use crate::tables::Cell;
+use crate::tables::{Cell, List};
 
 const ROOT: usize = 0;
 
@@ -47,4 +47,21 @@ pub fn steps(cells: &[Cell], text: &[u8], restarts: bool) -> Vec<Step> {
         steps.push(Step { cell, moves });
     }
     steps
+}
+
+/// The depth of each cell: each pattern is walked from root as far as it is there. A dropped one is
+/// not there to its end, and what is there of it are states all the same.
+pub fn depths(list: &List, cells: &[Cell]) -> Vec<u8> {
+    let mut depths = vec![0; cells.len()];
+    for pattern in &list.patterns {
+        let mut cell = 0;
+        for (place, byte) in pattern.bytes.iter().enumerate() {
+            let Some(child) = probe(cells, cell, *byte) else {
+                break;
+            };
+            depths[child] = (place + 1) as u8;
+            cell = child;
+        }
+    }
+    depths
 }

@@ -6,15 +6,16 @@ use crate::cell_walk;
 use crate::crate_answers::{self, Built};
 use crate::dice::Dice;
 use crate::families::{self, Family};
-use crate::model::{self, Model};
+use crate::model::Model;
 use crate::notation;
 use crate::question::Question;
+use crate::refusals::{in_ample_slots, Refusal};
 use crate::tables::{Found, Tables};
 
 /// The crate's answers, with our two numbers beside them.
 pub struct Answers {
-    /// Ours: the refusal that document 01 demands, or 0.
-    pub limit: u32,
+    /// Ours: the refusal that document 01 demands in ample slots, if any.
+    pub refusal: Option<Refusal>,
     pub tables: Tables,
     /// For each text what the crate found; none where the list is refused.
     pub found: Vec<Found>,
@@ -23,18 +24,24 @@ pub struct Answers {
     pub moves: Vec<[u32; 2]>,
 }
 
+impl Answers {
+    /// For each text what was found, with the moves.
+    pub fn searched(&self) -> impl Iterator<Item = (&Found, [u32; 2])> {
+        self.found.iter().zip(self.moves.iter().copied())
+    }
+}
+
 /// The crate's answers, whether the model agrees or not.
 pub fn answers(question: &Question) -> Result<Answers, String> {
     let built = crate_answers::build(&question.list)?;
     let tables = built.tables()?;
-    let limit = model::limit(&question.list, tables.cells.len());
-    let (found, moves) = if limit == 0 {
-        searched(&built, question)
-    } else {
-        (vec![], vec![])
+    let refusal = in_ample_slots(&question.list, &tables);
+    let (found, moves) = match refusal {
+        None => searched(&built, question),
+        Some(_) => (vec![], vec![]),
     };
     Ok(Answers {
-        limit,
+        refusal,
         tables,
         found,
         moves,
@@ -62,6 +69,8 @@ pub fn difference(question: &Question, answers: &Answers) -> Result<(), String> 
     }
     let model = Model::of(&question.list);
     same_tables(&answers.tables, &model.tables())?;
+    let depths = cell_walk::depths(&question.list, &answers.tables.cells);
+    same("depths", &depths, &model.depths())?;
     if !model.hunt_agrees() {
         return Err("the two tellings of the links differ".to_string());
     }
@@ -117,9 +126,15 @@ fn same<T: PartialEq + std::fmt::Debug>(what: &str, crates: &T, models: &T) -> R
 /// Compares one question and tells how many answers agreed: the tables, and one
 /// for each text.
 pub fn compare(question: &Question) -> Result<usize, String> {
-    let answers = answers(question).map_err(|told| replayable(question, &told))?;
-    difference(question, &answers).map_err(|told| replayable(question, &told))?;
-    Ok(1 + answers.found.len())
+    Ok(1 + agreed(question)?.found.len())
+}
+
+/// The crate's answers, with which the model agrees.
+pub fn agreed(question: &Question) -> Result<Answers, String> {
+    let told = |told: String| replayable(question, &told);
+    let answers = answers(question).map_err(told)?;
+    difference(question, &answers).map_err(told)?;
+    Ok(answers)
 }
 
 fn replayable(question: &Question, told: &str) -> String {

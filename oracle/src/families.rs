@@ -7,6 +7,7 @@ pub mod fibre;
 pub mod fixed;
 pub mod random;
 pub mod sample;
+pub mod scarce;
 pub mod window;
 
 use crate::dice::Dice;

@@ -6,8 +6,8 @@ use std::io::{Read, Write};
 use std::process::ExitCode;
 
 const USAGE: &str = "usage: oracle cases | oracle sample | oracle compare N | \
-    oracle exhaustive PATTERNS BYTES TEXT | oracle answer | \
-    oracle wild | oracle wild CASE | oracle wild tally | oracle yard LIST SHEET SEARCH";
+    oracle exhaustive PATTERNS BYTES TEXT | oracle answer | oracle tally | \
+    oracle yard LIST SHEET SEARCH";
 
 fn main() -> ExitCode {
     let words: Vec<String> = std::env::args().skip(1).collect();
@@ -19,9 +19,7 @@ fn main() -> ExitCode {
         ["exhaustive", patterns, bytes, text] => exhaustive(patterns, bytes, text),
         ["answer"] => answer(),
         ["yard", list, sheet, search] => yard::run(list, sheet, search),
-        ["wild"] => wild::run(),
-        ["wild", "tally"] => wild::run_tally(),
-        ["wild", case] => number(case).and_then(wild::run_one),
+        ["tally"] => wild::run_tally(),
         _ => Err(USAGE.to_string()),
     };
     match told.and_then(print) {

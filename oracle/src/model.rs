@@ -19,9 +19,6 @@ use trie::{Trie, ROOT};
 pub const WINDOW: Option<usize> = Some(16);
 
 const DEAD_CELL: u32 = 1;
-const MOST_PATTERNS: usize = 1024;
-const LONGEST_PATTERN: usize = 64;
-const MOST_CELLS: usize = 65_536;
 
 pub struct Model<'a> {
     list: &'a List,
@@ -52,11 +49,11 @@ impl<'a> Model<'a> {
     }
 
     /// The depth of each cell: 0 for root, dead and vacant.
-    pub fn depths(&self) -> Vec<u32> {
+    pub fn depths(&self) -> Vec<u8> {
         let placement = Placement::of(&self.trie, WINDOW);
         let mut depths = vec![0; placement.cell_count()];
         for (state, string) in self.trie.states.iter().enumerate() {
-            depths[placement.cell_of[state]] = string.len() as u32;
+            depths[placement.cell_of[state]] = string.len() as u8;
         }
         depths
     }
@@ -150,22 +147,5 @@ fn fill_vacant_checks(cells: &mut [Cell], placement: &Placement, block: usize) {
             let unused = unused.expect("a block with a vacant cell has an unused base");
             cells[cell].check = (unused ^ cell) as u32;
         }
-    }
-}
-
-/// The refusal that document 01 demands for the list when every buffer is
-/// ample, or 0. `cells` is what its placement needs.
-pub fn limit(list: &List, cells: usize) -> u32 {
-    let lengths = || list.patterns.iter().map(|pattern| pattern.bytes.len());
-    if list.patterns.len() > MOST_PATTERNS {
-        3
-    } else if lengths().any(|length| length == 0) {
-        4
-    } else if lengths().any(|length| length > LONGEST_PATTERN) {
-        5
-    } else if cells > MOST_CELLS {
-        7
-    } else {
-        0
     }
 }

@@ -1,8 +1,13 @@
-//! The sample's notation: decimal numbers between blanks and line ends, and
-//! remarks from `#` to the end of the line. README.md tells the exact order.
+//! The sample's notation: decimal numbers between blanks and line ends, remarks
+//! from `#` to the end of the line, and a semicolon after each case. The sample's
+//! head (`sample.rs`) tells the exact order, README.md that of a question.
 
+use crate::damage::{Answer, Counts, Tables, Value};
+use crate::lent::{LentList, Slots};
 use crate::question::Question;
-use crate::tables::{Cell, Found, List, Match, Pattern, Tables};
+use crate::refusals::Refusal;
+use crate::tables::{List, Pattern};
+use crate::wild::Course;
 
 const LINE: usize = 96;
 
@@ -23,11 +28,6 @@ impl Writer {
             self.text.push_str(format!("# {line}").trim_end());
             self.text.push('\n');
         }
-    }
-
-    pub fn blank_line(&mut self) {
-        self.end_line();
-        self.text.push('\n');
     }
 
     pub fn end_line(&mut self) {
@@ -52,7 +52,7 @@ impl Writer {
 
     pub fn line(&mut self, numbers: &[u32]) {
         self.end_line();
-        numbers.iter().for_each(|number| self.number(*number));
+        self.numbers(numbers);
         self.end_line();
     }
 
@@ -71,78 +71,117 @@ impl Writer {
     }
 
     fn bytes(&mut self, bytes: &[u8]) {
-        bytes.iter().for_each(|b| self.number(u32::from(*b)));
+        self.numbers(bytes);
         self.end_line();
     }
 
-    pub fn cells(&mut self, cells: &[Cell]) {
-        let runs = runs(cells);
-        self.line(&[runs.len() as u32]);
-        for run in runs {
-            self.run(run);
-        }
-        self.end_line();
+    fn numbers<T: Copy + Into<u32>>(&mut self, numbers: &[T]) {
+        numbers
+            .iter()
+            .for_each(|number| self.number((*number).into()));
     }
 
-    fn run(&mut self, run: &[Cell]) {
-        if has_only_check(&run[0]) {
-            self.end_line();
-            self.number(2);
-            self.number(run.len() as u32);
-            run.iter().for_each(|cell| self.number(cell.check));
-            self.end_line();
+    /// A case of the sample begins with a remark and ends with a semicolon.
+    pub fn begin(&mut self, name: &str) {
+        self.end_line();
+        self.text.push('\n');
+        self.remark(name);
+    }
+
+    pub fn end(&mut self) {
+        self.end_line();
+        self.text.push_str(";\n");
+    }
+
+    /// What is lent to a build, and the refusal that is due or 0.
+    pub fn built(&mut self, list: &LentList, mut slots: Slots, refusal: Option<Refusal>) {
+        self.line(&[list.kind]);
+        self.sequence(&list.bytes);
+        self.sequence(&list.ends);
+        self.sequence(&list.values);
+        self.line(&slots.in_order().map(|table| *table as u32));
+        let (number, row) = refusal.unwrap_or((0, 0));
+        self.line(&[number, row]);
+    }
+
+    pub fn counts(&mut self, counts: &Counts) {
+        self.line(&[counts.kind, counts.accepted, counts.states, counts.cells]);
+    }
+
+    pub fn cells(&mut self, tables: &Tables) {
+        self.sequence(&tables.base);
+        self.sequence(&tables.link);
+        self.sequence(&tables.output);
+        self.sequence(&tables.check);
+        self.sequence(&tables.depth);
+    }
+
+    pub fn outs(&mut self, outs: &[[u32; 3]]) {
+        self.told(outs.as_flattened(), 3 * outs.len(), 0);
+    }
+
+    /// As few numbers as tell the sequence: without the zeros at its end, or its first period.
+    fn sequence<T: Copy + Into<u32> + PartialEq + Default>(&mut self, numbers: &[T]) {
+        let zeros = numbers.iter().rev().take_while(|n| **n == T::default());
+        let (without_zeros, period) = (numbers.len() - zeros.count(), period(numbers));
+        if period < without_zeros {
+            self.told(numbers, period, period);
         } else {
-            let cell = run[0];
-            for number in [1, cell.base, cell.link, cell.output, cell.check] {
-                self.number(number);
-            }
+            self.told(numbers, without_zeros, 0);
         }
     }
 
-    pub fn outputs(&mut self, tables: &Tables) {
-        self.line(&[tables.outputs.len() as u32]);
-        for output in &tables.outputs {
-            for number in [output.value, output.length, output.next] {
-                self.number(number);
-            }
-        }
+    fn told<T: Copy + Into<u32>>(&mut self, numbers: &[T], told: usize, back: usize) {
+        self.line(&[numbers.len() as u32, told as u32, back as u32]);
+        self.numbers(&numbers[..told]);
         self.end_line();
     }
 
-    /// The searches of the kind; the moves of the standard ones are ours.
-    pub fn found(&mut self, found: &Found, moves: [u32; 2]) {
-        match found {
-            Found::Standard { overlapping, plain } => {
-                self.matches(overlapping);
-                self.line(&[moves[0]]);
-                self.matches(plain);
-                self.line(&[moves[1]]);
-            }
-            Found::Leftmost(matches) => self.matches(matches),
+    /// A text, the value that its searches start from, and their answers.
+    pub fn searched(&mut self, text: &[u8], start: Value, courses: &[Course]) {
+        self.sequence(text);
+        self.line(&[start.state, start.output]);
+        for number in [start.place, start.moves] {
+            self.numbers(&[(number >> 32) as u32, number as u32]);
+        }
+        for course in courses {
+            self.line(&[course.answers.len() as u32]);
+            course.answers.iter().for_each(|answer| self.answer(answer));
         }
     }
 
-    fn matches(&mut self, matches: &[Match]) {
-        self.number(matches.len() as u32);
-        for found in matches {
-            for number in [found.start, found.end, found.value] {
-                self.number(number);
+    /// The value handed back with a match or an end was walked to, so its numbers are small.
+    fn answer(&mut self, answer: &Answer) {
+        match answer {
+            Answer::Match(found, _) => {
+                self.numbers(&[1, small(found.start), small(found.end), found.value]);
             }
+            Answer::End(_) => self.number(2),
+            Answer::Refused(number, _) => return self.number(*number),
         }
-        self.end_line();
+        let next = answer.value();
+        self.numbers(&[
+            next.state,
+            next.output,
+            small(next.place),
+            small(next.moves),
+        ]);
     }
 }
 
-fn has_only_check(cell: &Cell) -> bool {
-    cell.base == 0 && cell.link == 0 && cell.output == 0
+fn small(number: u64) -> u32 {
+    u32::try_from(number).expect("what was walked to is small")
 }
 
-/// Consecutive cells that have only their checks make one run; any other cell
-/// is a run of its own.
-fn runs(cells: &[Cell]) -> Vec<&[Cell]> {
-    cells
-        .chunk_by(|left, right| has_only_check(left) && has_only_check(right))
-        .collect()
+/// The smallest distance at which every number is the one before it.
+fn period<T: PartialEq>(numbers: &[T]) -> usize {
+    let repeats = |by: &usize| {
+        numbers
+            .iter()
+            .zip(&numbers[*by..])
+            .all(|(one, other)| one == other)
+    };
+    (1..numbers.len()).find(repeats).unwrap_or(numbers.len())
 }
 
 /// A question without answers, as `oracle answer` reads it and a difference is

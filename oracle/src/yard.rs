@@ -3,7 +3,8 @@
 //! moves are the model's. The model's own matches have to be the crate's.
 
 use crate::crate_answers;
-use crate::model::{self, Model};
+use crate::model::Model;
+use crate::refusals::in_ample_slots;
 use crate::tables::{Found, List, Match, Pattern, LEFTMOST_FIRST, LEFTMOST_LONGEST, STANDARD};
 use std::fs;
 
@@ -31,9 +32,8 @@ fn read(name: &str) -> Result<Vec<u8>, String> {
 
 fn answer(list: &List, sheet: &[u8], is_plain: bool) -> Result<String, String> {
     let built = crate_answers::build(list)?;
-    let limit = model::limit(list, built.tables()?.cells.len());
-    if limit != 0 {
-        return Err(format!("refusal {limit}"));
+    if let Some((number, _)) = in_ample_slots(list, &built.tables()?) {
+        return Err(format!("refusal {number}"));
     }
     if sheet.len() > MOST_TEXT {
         return Err("refusal 10".to_string());

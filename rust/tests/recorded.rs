@@ -2,7 +2,7 @@
 
 mod sample;
 
-use rotspangle::{Kind, Match, Matcher, Matches, Refusal};
+use rotspangle::{Match, Matcher, Matches, Refusal};
 use sample::{cases, Case, Found};
 
 fn built(case: &Case) -> Result<Matcher, Refusal> {
@@ -10,32 +10,30 @@ fn built(case: &Case) -> Result<Matcher, Refusal> {
     Matcher::with_values(case.kind, patterns.map(|(bytes, value)| (bytes, *value)))
 }
 
+fn wide(bytes: &[u8]) -> Vec<u32> {
+    bytes.iter().map(|byte| u32::from(*byte)).collect()
+}
+
 #[test]
 fn every_list_is_built_as_the_crate_builds_it() {
     let cases = cases();
-    assert_eq!(cases.len(), 388);
+    assert!(cases.len() > 388, "the sample has lists");
     let mut shown = 0;
-    for case in cases.iter().filter(|case| case.limit == 0) {
+    for case in cases.iter().filter(|case| case.refusal[0] == 0) {
         let matcher = built(case).expect("within the limits");
         let counts = matcher.counts();
-        assert_eq!(counts.kind, case.kind as u32);
-        assert_eq!(counts.states, case.states);
-        assert_eq!(counts.accepted, case.accepted);
-        assert_eq!(counts.cells, case.cells);
+        let ours = [counts.kind, counts.accepted, counts.states, counts.cells];
+        assert_eq!(ours, case.counts);
         let tables = matcher.tables();
-        assert_eq!(tables.base.len(), case.cells as usize);
-        assert_eq!(tables.outs, case.outputs);
-        for (cell, due) in case.shown.iter().enumerate() {
-            let check = u32::from(tables.check[cell]);
-            let ours = [
-                tables.base[cell],
-                tables.link[cell],
-                tables.output[cell],
-                check,
-            ];
-            assert_eq!(ours, *due, "cell {cell}");
+        assert_eq!(tables.outs.as_flattened(), case.outputs);
+        if let [base, link, output, check, depth] = case.columns.as_slice() {
+            assert_eq!(tables.base, *base);
+            assert_eq!(tables.link, *link);
+            assert_eq!(tables.output, *output);
+            assert_eq!(wide(&tables.check), *check);
+            assert_eq!(wide(&tables.depth), *depth);
+            shown += base.len();
         }
-        shown += case.shown.len();
     }
     assert!(shown > 100_000, "the sample shows cells");
 }
@@ -43,20 +41,20 @@ fn every_list_is_built_as_the_crate_builds_it() {
 #[test]
 fn every_text_is_searched_as_the_crate_searches_it() {
     let mut searches = 0;
-    for case in cases().iter().filter(|case| case.limit == 0) {
+    for case in cases().iter().filter(|case| case.refusal[0] == 0) {
         let matcher = built(case).expect("within the limits");
         for text in &case.texts {
-            let found: Vec<Matches> = match case.kind {
-                Kind::Standard => vec![
-                    matcher.overlapping(&text.bytes).expect("kind 0"),
-                    matcher.plain(&text.bytes).expect("kind 0"),
-                ],
-                _ => vec![matcher.leftmost(&text.bytes).expect("a leftmost kind")],
-            };
-            assert_eq!(found.len(), text.found.len());
+            let found = [
+                matcher.overlapping(&text.bytes),
+                matcher.plain(&text.bytes),
+                matcher.leftmost(&text.bytes),
+            ];
             for (ours, due) in found.into_iter().zip(&text.found) {
-                same(ours, due);
                 searches += 1;
+                match ours {
+                    Ok(ours) => same(ours, due),
+                    Err(refusal) => assert_eq!(refusal.number(), due.refusal),
+                }
             }
         }
     }
@@ -65,39 +63,29 @@ fn every_text_is_searched_as_the_crate_searches_it() {
 
 fn same(mut ours: Matches, due: &Found) {
     let matches: Vec<Match> = ours.by_ref().collect();
+    assert_eq!(due.refusal, 0);
     assert_eq!(matches, due.matches);
-    assert_eq!(ours.moves(), due.moves);
+    assert_eq!(ours.moves(), u64::from(due.moves));
     assert_eq!(ours.next(), None, "the end again");
 }
 
 #[test]
 fn every_list_beyond_a_limit_is_refused() {
     let mut met = vec![];
-    for case in cases().iter().filter(|case| case.limit != 0) {
+    for case in cases().iter().filter(|case| case.refusal[0] != 0) {
         let refusal = built(case).expect_err("beyond a limit");
-        assert_eq!(refusal, due(case));
-        assert_eq!(refusal.number(), case.limit);
-        met.push(case.limit);
+        assert_eq!([refusal.number(), row(refusal)], case.refusal);
+        met.push(refusal.number());
     }
-    for limit in [3, 4, 5, 7] {
-        assert!(met.contains(&limit), "the sample has limit {limit}");
+    for number in [3, 4, 5, 7] {
+        assert!(met.contains(&number), "the sample has refusal {number}");
     }
 }
 
-/// The refusal of the recorded number, with the lowest row that has it.
-fn due(case: &Case) -> Refusal {
-    let row = |bad: fn(usize) -> bool| {
-        let mut lengths = case.patterns.iter().map(|(bytes, _)| bytes.len());
-        lengths.position(bad).expect("a row has it")
-    };
-    match case.limit {
-        3 => Refusal::TooMany,
-        4 => Refusal::Empty {
-            row: row(|length| length == 0),
-        },
-        5 => Refusal::TooLong {
-            row: row(|length| length > 64),
-        },
-        _ => Refusal::FewCells,
+/// The row that a refusal names, or 0.
+fn row(refusal: Refusal) -> u32 {
+    match refusal {
+        Refusal::Empty { row } | Refusal::TooLong { row } => row as u32,
+        _ => 0,
     }
 }

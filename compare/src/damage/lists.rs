@@ -6,15 +6,13 @@ use super::ground::{Access, Ground};
 use super::tally::Tally;
 use super::watch::watched;
 use crate::left::{Left, Made};
-use crate::list::LentList;
-use crate::refusals;
-use crate::slots::Slots;
+use crate::slots::junk;
 use oracle::dice::Dice;
+use oracle::lent::{LentList, Slots};
 use oracle::model::Model;
-use oracle::tables::{self, List};
+use oracle::refusals::{self, Refusal};
+use oracle::tables;
 use rotspangle::lent::{Counts, Tables, Work};
-
-const MOST_CELLS: usize = 65_536;
 
 #[derive(Debug)]
 pub struct ListCase {
@@ -24,7 +22,7 @@ pub struct ListCase {
 
 /// The refusal, or the tables and their depths.
 pub enum Due {
-    Refused(u32, u32),
+    Refused(Refusal),
     Made(tables::Tables, Vec<u8>),
 }
 
@@ -132,36 +130,16 @@ fn near(dice: &mut Dice, slots: usize) -> usize {
 
 impl ListCase {
     pub fn due(&self) -> Due {
-        if let Some((number, row)) = refusals::at_once(&self.list) {
-            return Due::Refused(number, row);
+        if let Some(refusal) = refusals::at_once(&self.list) {
+            return Due::Refused(refusal);
         }
-        let list = self.as_list();
+        let list = self.list.as_list();
         let model = Model::of(&list);
         let tables = model.tables();
-        let cells = tables.cells.len();
-        if tables.states as usize + 1 > self.slots.states() {
-            Due::Refused(6, 0)
-        } else if cells > self.slots.cells() || cells > MOST_CELLS {
-            Due::Refused(7, 0)
-        } else if tables.outputs.len() > self.slots.outputs() {
-            Due::Refused(8, 0)
-        } else {
-            let depths = model.depths().iter().map(|depth| *depth as u8).collect();
-            Due::Made(tables, depths)
+        match refusals::by_slots(&tables, &self.slots) {
+            Some(refusal) => Due::Refused(refusal),
+            None => Due::Made(tables, model.depths()),
         }
-    }
-
-    fn as_list(&self) -> List {
-        let LentList {
-            kind,
-            bytes,
-            ends,
-            values,
-        } = &self.list;
-        let starts = std::iter::once(&0).chain(ends);
-        let pattern = |(start, end): (&u32, &u32)| bytes[*start as usize..*end as usize].to_vec();
-        let patterns: Vec<Vec<u8>> = starts.zip(ends).map(pattern).collect();
-        List::with_values(*kind as u8, &patterns, values)
     }
 
     /// Plays the case on a ground: the answer and every element of every table are what is due,
@@ -172,7 +150,7 @@ impl ListCase {
         ground: &mut impl Ground,
         tally: &mut Tally,
     ) -> Result<(), String> {
-        let (work, tables) = self.slots.junk();
+        let (work, tables) = junk(&self.slots);
         let lent = self.lend(&work, &tables, ground);
         // SAFETY: all is lent in places of its own until it is taken back below.
         let (number, left, is_kept) = unsafe {
@@ -184,7 +162,7 @@ impl ListCase {
             return Err("the list was written".to_string());
         }
         match due {
-            Due::Refused(number, row) => left.is_refused((*number, *row))?,
+            Due::Refused(refusal) => left.is_refused(*refusal)?,
             Due::Made(tables, depths) => left.is_made(Made {
                 kind: self.list.kind,
                 tables,

@@ -4,37 +4,17 @@
 use super::expected::Expected;
 use super::fault::Fault;
 use crate::left::Left;
-use crate::slots::Slots;
+use crate::slots::junk;
+use oracle::lent::Slots;
+use oracle::refusals;
 use rotspangle::lent::{self, Tables};
 use rotspangle::{Kind, Matcher, Refusal};
 
 /// In how many ways one slot can be lacking.
 pub const WAYS: usize = 10;
 
-/// One slot less in one table, and the refusal that is due for it; none where there is no slot.
-fn one_less(slots: Slots, way: usize) -> (Slots, Option<u32>) {
-    let mut less = slots;
-    let (lacking, refusal) = match way % WAYS {
-        0 => (&mut less.trie, 6),
-        1 => (&mut less.notes, 6),
-        2 => (&mut less.spots, 7),
-        3 => (&mut less.base, 7),
-        4 => (&mut less.link, 7),
-        5 => (&mut less.output, 7),
-        6 => (&mut less.check, 7),
-        7 => (&mut less.depth, 7),
-        8 => (&mut less.owns, 8),
-        _ => (&mut less.outs, 8),
-    };
-    if *lacking == 0 {
-        return (less, None);
-    }
-    *lacking -= 1;
-    (less, Some(refusal))
-}
-
 fn build_in(expected: &Expected, slots: Slots, fault: Fault) -> Left {
-    let (mut work, mut tables) = slots.junk();
+    let (mut work, mut tables) = junk(&slots);
     let list = &expected.lent;
     let mut told = lent::build(
         list.kind,
@@ -69,30 +49,22 @@ pub fn ample(expected: &Expected, fault: Fault) -> Result<Option<Tables>, String
 
 /// Exact slots, which must do.
 pub fn exact(expected: &Expected, fault: Fault) -> Result<(), String> {
-    let left = build_in(expected, needed(expected), fault);
+    let left = build_in(expected, Slots::needed(&expected.tables), fault);
     let told = |error| format!("exact slots: {error}");
     left.is_made(expected.made()).map_err(told)
 }
 
-/// One slot less than needed in one table.
+/// One slot less than needed in one table, if it needs any.
 pub fn one_too_few(expected: &Expected, way: usize, fault: Fault) -> Result<(), String> {
-    let (slots, refusal) = one_less(needed(expected), way);
+    let mut slots = Slots::needed(&expected.tables);
+    let lacking = &mut slots.in_order()[way % WAYS];
+    **lacking = lacking.saturating_sub(1);
     let left = build_in(expected, slots, fault);
     let told = |error| format!("{slots:?}: {error}");
-    match refusal {
+    match refusals::by_slots(&expected.tables, &slots) {
         None => left.is_made(expected.made()).map_err(told),
-        Some(number) => left.is_refused((number, 0)).map_err(told),
+        Some(refusal) => left.is_refused(refusal).map_err(told),
     }
-}
-
-/// Dead needs a slot of a state too.
-fn needed(expected: &Expected) -> Slots {
-    let tables = &expected.tables;
-    Slots::of(
-        tables.states as usize + 1,
-        tables.outputs.len(),
-        tables.cells.len(),
-    )
 }
 
 /// The same list as a matcher, or nothing if it is refused as it must be.

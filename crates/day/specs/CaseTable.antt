@@ -129,8 +129,8 @@ pub record CaseTable : Type 0 where
   pub p8-first : Case leftmost (under 2 twins (5 ∷ 7 ∷ [])) (bytes "ab") 2 3 (at 0 2 5 ∷ []) 0
   -- P9 no patterns, no text
   pub p9 : Case overlapping (under 0 [] []) [] 0 1 [] 0
-  -- the edges that are refused, with more slots than any list needs but for the 255 cells: 65 bytes, 1,025 listed, 255 cells lent; the program `edges` runs
-  -- them, and those that are accepted
+  -- the edges that are refused, with more slots than any list needs but for the 255 cells: 65 bytes, 1,025 listed, 255 cells lent; the program
+  -- `replay` runs them, and those that are accepted
   pub edge-bytes : Builds (under 0 (replicate 65 97 ∷ []) (0 ∷ [])) (slots 70000 70000 70000) (refused (record { number = 5; index = 0 }))
   pub edge-listed : Builds (under 0 (replicate 1025 (bytes "a")) (replicate 1025 0)) (slots 70000 70000 70000) (refusal 3)
   pub edge-cells : Builds three (slots 70000 255 70000) (refusal 7)

@@ -1,205 +1,257 @@
-// The recorded cells and outputs of a case, each held to what stands in its place of the tables that were built.
-use crate::lists::CELLS;
-use crate::lists::OUTPUTS;
-use crate::run::BAD_FORM;
+// Every element that was lent of a table, held to what is recorded of it. Past a sequence, and in the working tables, of which nothing
+// is recorded, each element is to be the same number, `rest`. Elements of rows are counted through.
 use crate::run::Run;
 use crate::run::fail;
-use crate::run::number;
-use crate::run::pass;
-use crate::tally::judge_next;
+use crate::run::judge;
+use crate::sequences::Sequence;
+use crate::sequences::element;
+use crate::sequences::past;
+use crate::sequences::row_of;
+use crate::sequences::sequence_at;
+use crate::sequences::thrice;
+use crate::sequences::twice;
+use std::num::wrapping_add_usize;
 
-// The sample has no depths: the crate keeps them apart, and only on demand.
-struct Cell {
-    base: u32,
-    link: u32,
-    output: u32,
-    check: u32,
-}
+// A sequence with no numbers.
+const NOTHING: Sequence = Sequence {
+    length: 0,
+    told: 0,
+    back: 0,
+    first: 0,
+};
 
-// How many numbers tell a whole cell. Of any other only the check is recorded, and the rest is 0.
-const WHOLE: usize = 4;
-
-fn recorded_cell(numbers: &[u32], at: usize, width: usize) -> Cell {
-    if width == WHOLE {
-        return Cell {
-            base: number(numbers, at, 0),
-            link: number(numbers, at, 1),
-            output: number(numbers, at, 2),
-            check: number(numbers, at, 3),
-        };
+fn due(numbers: &[u32], from: Sequence, k: usize, rest: u32) -> u64 {
+    if k < from.length {
+        return element(numbers, from, k) as u64;
     }
-    Cell {
-        base: 0,
-        link: 0,
-        output: 0,
-        check: number(numbers, at, 0),
-    }
+    rest as u64
 }
 
-fn code(byte: u8) -> u32 {
-    byte as u32
+fn wide(word: u32) -> u64 {
+    word as u64
 }
 
-// A cell of the tables. Past them there is one that is never recorded, since no check is so large.
-fn built_cell(
-    base: &[u32; CELLS],
-    link: &[u32; CELLS],
-    output: &[u32; CELLS],
-    check: &[u8; CELLS],
-    k: usize,
-) -> Cell {
-    if k < CELLS {
-        return Cell {
-            base: base[k],
-            link: link[k],
-            output: output[k],
-            check: code(check[k]),
-        };
-    }
-    Cell {
-        base: 0,
-        link: 0,
-        output: 0,
-        check: u32::MAX,
-    }
+fn code(byte: u8) -> u64 {
+    byte as u64
 }
 
-fn are_same(one: Cell, other: Cell) -> bool {
-    (one.base == other.base)
-        & (one.link == other.link)
-        & (one.output == other.output)
-        & (one.check == other.check)
-}
-
-// The cells from `from` to before `end`, each of which so many numbers tell.
-fn compare_part(
+// A part of a table whose first element has that index.
+fn compare_elements(
     numbers: &[u32],
     run: Run,
-    base: &[u32; CELLS],
-    link: &[u32; CELLS],
-    output: &[u32; CELLS],
-    check: &[u8; CELLS],
-    from: u32,
-    end: u32,
-    width: usize,
+    what: &[u8],
+    from: Sequence,
+    index: usize,
+    table: &[u32],
+    lent: usize,
+    rest: u32,
 ) -> Run {
     let mut at = run;
-    let mut k = from;
-    while k < end && at.fault == 0 {
-        let recorded = recorded_cell(numbers, at.place, width);
-        let built = built_cell(base, link, output, check, k as usize);
-        let same = are_same(recorded, built);
-        at = judge_next(at, width, b"cells differ", same);
-        k += 1;
-    }
-    at
-}
-
-// What a run of cells begins with: how many numbers say what it is, how many cells there are, and how many numbers tell each.
-struct Part {
-    head: usize,
-    size: u32,
-    width: usize,
-}
-
-fn next_part(numbers: &[u32], at: usize) -> Part {
-    match number(numbers, at, 0) {
-        1 => Part {
-            head: 1,
-            size: 1,
-            width: WHOLE,
-        },
-        2 => Part {
-            head: 2,
-            size: number(numbers, at, 1),
-            width: 1,
-        },
-        // There is no other sort, and no case has so many cells.
-        _ => Part {
-            head: 1,
-            size: u32::MAX,
-            width: 1,
-        },
-    }
-}
-
-// Runs of cells. Together they hold as many cells as the case has.
-pub(crate) fn compare_cells(
-    numbers: &[u32],
-    run: Run,
-    base: &[u32; CELLS],
-    link: &[u32; CELLS],
-    output: &[u32; CELLS],
-    check: &[u8; CELLS],
-    cells: u32,
-) -> Run {
-    let runs = number(numbers, run.place, 0);
-    let mut at = pass(run, 1);
-    // No runs: the cells are left out of the sample.
-    if runs == 0 {
-        return at;
-    }
-    let mut from = 0;
-    let mut i = 0;
-    while i < runs && at.fault == 0 {
-        let part = next_part(numbers, at.place);
-        if cells - from < part.size {
-            return fail(at, BAD_FORM);
-        }
-        let end = from + part.size;
-        let begun = pass(at, part.head);
-        at = compare_part(
-            numbers,
-            begun,
-            base,
-            link,
-            output,
-            check,
-            from,
-            end,
-            part.width,
-        );
-        from = end;
-        i += 1;
-    }
-    if from != cells {
-        return fail(at, BAD_FORM);
-    }
-    at
-}
-
-fn is_output(outs: &[[u32; 3]; OUTPUTS], k: usize, value: u32, length: u32, next: u32) -> bool {
-    if k < OUTPUTS {
-        let row = outs[k];
-        return (row[0] == value) & (row[1] == length) & (row[2] == next);
-    }
-    false
-}
-
-fn compare_output(numbers: &[u32], run: Run, outs: &[[u32; 3]; OUTPUTS], k: u32) -> Run {
-    let at = run.place;
-    let value = number(numbers, at, 0);
-    let length = number(numbers, at, 1);
-    let next = number(numbers, at, 2);
-    let same = is_output(outs, k as usize, value, length, next);
-    judge_next(run, 3, b"outputs differ", same)
-}
-
-pub(crate) fn compare_outputs(
-    numbers: &[u32],
-    run: Run,
-    outs: &[[u32; 3]; OUTPUTS],
-    accepted: u32,
-) -> Run {
-    let count = number(numbers, run.place, 0);
-    let mut at = pass(run, 1);
-    if count != accepted {
-        return fail(at, BAD_FORM);
-    }
     let mut k = 0;
-    while k < count && at.fault == 0 {
-        at = compare_output(numbers, at, outs, k);
+    while k < lent {
+        if table.len() <= k {
+            return fail(at);
+        }
+        let here = wide(table[k]);
+        let number = due(numbers, from, k, rest);
+        at = judge(at, what, wrapping_add_usize(index, k), number, here);
         k += 1;
     }
     at
+}
+
+pub(crate) fn compare_words(
+    numbers: &[u32],
+    run: Run,
+    what: &[u8],
+    table: &[u32],
+    lent: usize,
+    rest: u32,
+) -> Run {
+    let from = sequence_at(numbers, run.place);
+    past(
+        compare_elements(numbers, run, what, from, 0, table, lent, rest),
+        from,
+    )
+}
+
+pub(crate) fn compare_bytes(
+    numbers: &[u32],
+    run: Run,
+    what: &[u8],
+    table: &[u8],
+    lent: usize,
+    rest: u32,
+) -> Run {
+    let from = sequence_at(numbers, run.place);
+    let mut at = run;
+    let mut k = 0;
+    while k < lent {
+        if table.len() <= k {
+            return fail(at);
+        }
+        at = judge(at, what, k, due(numbers, from, k, rest), code(table[k]));
+        k += 1;
+    }
+    past(at, from)
+}
+
+// How much is lent of each table, in the order of a build's parameters.
+pub(crate) struct Lent {
+    pub trie: usize,
+    pub owns: usize,
+    pub notes: usize,
+    pub spots: usize,
+    pub base: usize,
+    pub link: usize,
+    pub output: usize,
+    pub check: usize,
+    pub depth: usize,
+    pub outs: usize,
+}
+
+// Row k of a table, if it was lent. There is a function for each width of rows.
+
+fn compare_pair(
+    numbers: &[u32],
+    run: Run,
+    what: &[u8],
+    table: &[[u32; 2]],
+    lent: usize,
+    k: usize,
+    rest: u32,
+) -> Run {
+    if k < lent {
+        if k < table.len() {
+            return compare_elements(numbers, run, what, NOTHING, twice(k), &table[k], 2, rest);
+        }
+    }
+    run
+}
+
+fn compare_triple(
+    numbers: &[u32],
+    run: Run,
+    what: &[u8],
+    from: Sequence,
+    table: &[[u32; 3]],
+    lent: usize,
+    k: usize,
+    rest: u32,
+) -> Run {
+    if k < lent {
+        if k < table.len() {
+            return compare_elements(
+                numbers,
+                run,
+                what,
+                row_of(from, k),
+                thrice(k),
+                &table[k],
+                3,
+                rest,
+            );
+        }
+    }
+    run
+}
+
+fn compare_five(
+    numbers: &[u32],
+    run: Run,
+    what: &[u8],
+    table: &[[u32; 5]],
+    lent: usize,
+    k: usize,
+    rest: u32,
+) -> Run {
+    if k < lent {
+        if k < table.len() {
+            let index = wrapping_add_usize(twice(k), thrice(k));
+            return compare_elements(numbers, run, what, NOTHING, index, &table[k], 5, rest);
+        }
+    }
+    run
+}
+
+fn compare_six(
+    numbers: &[u32],
+    run: Run,
+    what: &[u8],
+    table: &[[u32; 6]],
+    lent: usize,
+    k: usize,
+    rest: u32,
+) -> Run {
+    if k < lent {
+        if k < table.len() {
+            let index = twice(thrice(k));
+            return compare_elements(numbers, run, what, NOTHING, index, &table[k], 6, rest);
+        }
+    }
+    run
+}
+
+// Row k of each table of rows. Of `outs` alone something is recorded.
+fn compare_row(
+    numbers: &[u32],
+    run: Run,
+    trie: &[[u32; 5]],
+    owns: &[[u32; 2]],
+    notes: &[[u32; 6]],
+    spots: &[[u32; 2]],
+    outs: &[[u32; 3]],
+    from: Sequence,
+    lent: Lent,
+    k: usize,
+    rest: u32,
+) -> Run {
+    let tries = compare_five(numbers, run, b"trie", trie, lent.trie, k, rest);
+    let own = compare_pair(numbers, tries, b"owns", owns, lent.owns, k, rest);
+    let noted = compare_six(numbers, own, b"notes", notes, lent.notes, k, rest);
+    let spot = compare_pair(numbers, noted, b"spots", spots, lent.spots, k, rest);
+    compare_triple(numbers, spot, b"outs", from, outs, lent.outs, k, rest)
+}
+
+fn larger(one: usize, other: usize) -> usize {
+    if one < other { other } else { one }
+}
+
+fn most_rows(lent: Lent) -> usize {
+    let working = larger(larger(lent.trie, lent.notes), larger(lent.owns, lent.spots));
+    larger(working, lent.outs)
+}
+
+pub(crate) fn compare_rows(
+    numbers: &[u32],
+    run: Run,
+    trie: &[[u32; 5]],
+    owns: &[[u32; 2]],
+    notes: &[[u32; 6]],
+    spots: &[[u32; 2]],
+    outs: &[[u32; 3]],
+    lent: Lent,
+    rest: u32,
+) -> Run {
+    let from = sequence_at(numbers, run.place);
+    let end = most_rows(lent);
+    let mut at = run;
+    let mut k = 0;
+    while k < end {
+        at = compare_row(
+            numbers,
+            at,
+            trie,
+            owns,
+            notes,
+            spots,
+            outs,
+            from,
+            lent,
+            k,
+            rest,
+        );
+        k += 1;
+    }
+    past(at, from)
 }

@@ -1,5 +1,4 @@
-//! The cases: what is lent and what is told of it, and the rest from the files beside this one. The
-//! Rattle program throws the same.
+//! The cases: what is lent and what is told of it, and the rest from the files beside this one.
 
 use super::tables::{self, CELLS, OUTPUTS};
 use super::texts;
@@ -40,7 +39,7 @@ pub fn thrown(case: u32) -> Case {
         kind,
         cells: count_for(throws.next(), slots, CELLS),
         accepted: count_for(throws.next(), rows, OUTPUTS),
-        states: throws.next(),
+        states: throws.next() % 1000,
     };
     let shape = Shape {
         calm: flags % 4 == 0 || is_long(case),

@@ -1,11 +1,8 @@
-//! A search called again and again on the value that it hands back, until it stops, and what is
-//! told of that: how many matches, how it stopped, and a sum over every number of every answer.
+//! A search called again and again on the value that it hands back, until it stops.
 
 use super::case::Case;
 use super::values::Start;
-use crate::damage::{call, Answer, Notes, Search, Value};
-
-const MODULUS: u64 = 1_000_000_007;
+use crate::damage::{call, Answer, Notes, Search, Tables, Value, SEARCHES};
 
 pub struct Course {
     pub answers: Vec<Answer>,
@@ -21,30 +18,35 @@ pub fn start(case: &Case) -> Value {
             calls,
         } => {
             let text = &case.text[..bytes];
-            let walked = course(
-                case,
-                search,
-                text,
-                Value::default(),
-                calls,
-                &Notes::default(),
-            );
-            walked.value()
+            let fresh = Value::default();
+            course(&case.tables, search, text, fresh, calls, &Notes::default()).value()
         }
     }
 }
 
+/// The three searches, all from the same value.
+pub fn searched(
+    tables: &Tables,
+    text: &[u8],
+    start: Value,
+    calls: u32,
+    notes: &Notes,
+) -> Vec<Course> {
+    let of = |search: &Search| course(tables, *search, text, start, calls, notes);
+    SEARCHES.iter().map(of).collect()
+}
+
 /// The calls of one search from a value: to the first answer that is no match, or as many as are
 /// allowed; and one more after an end.
-pub fn course(
-    case: &Case,
+fn course(
+    tables: &Tables,
     search: Search,
     text: &[u8],
     start: Value,
     calls: u32,
     notes: &Notes,
 ) -> Course {
-    let ask = |value: Value| call(search, &case.tables, text, value, notes);
+    let ask = |value: Value| call(search, tables, text, value, notes);
     let mut answers = vec![ask(start)];
     while let Some(Answer::Match(_, value)) = answers.last() {
         if answers.len() == calls as usize {
@@ -60,7 +62,7 @@ pub fn course(
 
 impl Course {
     /// What was handed back last.
-    fn value(&self) -> Value {
+    pub fn value(&self) -> Value {
         self.answers[self.answers.len() - 1].value()
     }
 
@@ -86,14 +88,6 @@ impl Course {
             _ => false,
         }
     }
-
-    pub fn sum(&self) -> u64 {
-        self.answers.iter().flat_map(numbers).fold(0, folded)
-    }
-
-    pub fn line(&self) -> String {
-        format!("{} {} {}", self.matches(), self.stop(), self.sum())
-    }
 }
 
 fn stop(answer: &Answer) -> Option<String> {
@@ -102,25 +96,4 @@ fn stop(answer: &Answer) -> Option<String> {
         Answer::End(_) => Some("end".to_string()),
         Answer::Refused(number, _) => Some(number.to_string()),
     }
-}
-
-/// Every number of an answer: which it is, the match or zeros, and the four fields of the value.
-fn numbers(answer: &Answer) -> Vec<u64> {
-    let mut numbers = match answer {
-        Answer::Match(found, _) => vec![1, found.start, found.end, u64::from(found.value)],
-        Answer::End(_) => vec![2, 0, 0, 0],
-        Answer::Refused(number, _) => vec![u64::from(*number), 0, 0, 0],
-    };
-    let value = answer.value();
-    numbers.extend([
-        u64::from(value.state),
-        u64::from(value.output),
-        value.place,
-        value.moves,
-    ]);
-    numbers
-}
-
-fn folded(sum: u64, number: u64) -> u64 {
-    (sum * 31_627 + number % MODULUS) % MODULUS
 }

@@ -123,7 +123,7 @@ fn outs(throws: &mut Throws, length: u32, shape: &Shape) -> Vec<[u32; 3]> {
     let mut room: Vec<[u32; 3]> = (0..OUTPUTS)
         .map(|i| {
             [
-                throws.next(),
+                throws.next() % 1000,
                 length_for(throws.next(), shape),
                 next_for(i, throws.next(), shape),
             ]

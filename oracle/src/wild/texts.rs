@@ -1,20 +1,17 @@
-//! The texts. There is one array, one byte longer than a text may be: each case throws its first
-//! bytes, and the rest stays. A short text is some of the first bytes, a long one nearly all of it.
+//! The texts. A short one is some of the first bytes, a long one repeats them and some more.
 
 use super::case::Shape;
 use super::throws::{is_wild, rest, wild_byte, Throws};
 
+/// After so many bytes a long text begins again.
+const PERIOD: usize = 64;
+
 pub fn thrown(throws: &mut Throws, shape: &Shape, is_long: bool) -> Vec<u8> {
     let length = text_length(throws.next(), is_long);
-    let first: Vec<u8> = (0..8).map(|_| letter_for(throws.next(), shape)).collect();
+    let mut period: Vec<u8> = (0..8).map(|_| letter_for(throws.next(), shape)).collect();
     let mut others = Throws::of_case(0);
-    let mut text: Vec<u8> = (0..length)
-        .map(|_| (rest(others.next()) % 2) as u8)
-        .collect();
-    text.iter_mut()
-        .zip(first)
-        .for_each(|(byte, thrown)| *byte = thrown);
-    text
+    period.resize_with(PERIOD, || (rest(others.next()) % 2) as u8);
+    period.into_iter().cycle().take(length as usize).collect()
 }
 
 fn letter_for(x: u32, shape: &Shape) -> u8 {

@@ -1,4 +1,4 @@
-//! The dice that the Rattle program throws too, and the numbers that a throw stands for. A throw is
+//! The dice, and the numbers that a throw stands for. A throw is
 //! one number below 2^31 - 1, and each field of a case is a function of one throw: its remainder by
 //! `RARE` says whether the field is wild, the rest of it which number it gets.
 

@@ -1,35 +1,49 @@
--- `main` is safe. The length of the table is told by a lemma: to count so many elements is dear.
-use mathlib.Core.Path.{sym, _∙_}
-use Prim.Native.Nat.{ℕ}
-use lib.ListN.{length-replicate}
+-- `main` ends: it counts down.
+use native.Mathlib.Omega.{arith}
 use Rattle.replay.proofs.main.Statement.{statement}
 use Rattle.replay.proofs.main.Tie as tie
 
-slice-aggregate-read-numbers : tie.Need-slice-aggregate-read-numbers
-slice-aggregate-read-numbers c = sym (length-replicate {A = ℕ} 600000 0)
+abbrev Inv-loop : tie.InvT-loop
+Inv-loop numbers₀ room₀ reading₀ run₀ turns₀ numbers room reading run turns = Unit {0}
 
-read-numbers-requires : tie.Need-read-numbers-requires
-read-numbers-requires c κs = tt
+abbrev μ-loop : tie.MeasureT-loop
+μ-loop numbers₀ room₀ reading₀ run₀ turns₀ numbers room reading run turns = turns
 
-slice-aggregate-compare : tie.Need-slice-aggregate-compare
-slice-aggregate-compare c = sym (c .before .before .read-numbers .kept .0 ∙ length-replicate {A = ℕ} 600000 0)
+loop-holds : tie.Need-loop-holds Inv-loop μ-loop
+loop-holds c = tt
 
-shortage-requires : tie.Need-shortage-requires
-shortage-requires c κs = tt
+read-case-requires : tie.Need-read-case-requires Inv-loop μ-loop
+read-case-requires c κs = tt
 
-compare-requires : tie.Need-compare-requires
-compare-requires c κs = tt
+run-read-requires : tie.Need-run-read-requires Inv-loop μ-loop
+run-read-requires c κs = tt
 
-returns : tie.Need-returns
+sub-turns : tie.Need-sub-turns Inv-loop μ-loop
+sub-turns c = omega arith
+
+loop-less : tie.Need-loop-less Inv-loop μ-loop
+loop-less c = omega arith
+
+loop-again : tie.Need-loop-again Inv-loop μ-loop
+loop-again c = tt
+
+report-requires : tie.Need-report-requires Inv-loop μ-loop
+report-requires c κs = tt
+
+returns : tie.Need-returns Inv-loop μ-loop
 returns c = tt
 
 pub main-spec : {M : Type 1} → statement M
 main-spec =
     tie.close
     (tie.spec
-    slice-aggregate-read-numbers
-    read-numbers-requires
-    slice-aggregate-compare
-    shortage-requires
-    compare-requires
+    Inv-loop
+    μ-loop
+    loop-holds
+    read-case-requires
+    run-read-requires
+    sub-turns
+    loop-less
+    loop-again
+    report-requires
     returns)
