@@ -6,15 +6,17 @@ use crate::refuse::tell_refused;
 use crate::refuse::tell_unwritten;
 use crate::report::print_report;
 use desk::words::Way;
+use list::limits::MOST_CELLS;
+use list::limits::MOST_LISTED;
 use search::Answer;
 use search::Search;
 use table::Counts;
 use table::Depth;
 
 // As many as any list within the limits needs.
-pub const CELLS: usize = 65536;
+pub const CELLS: usize = MOST_CELLS;
 
-pub const OUTPUTS: usize = 1024;
+pub const OUTPUTS: usize = MOST_LISTED;
 
 fn tell_outcome(name: &[u8], outcome: Outcome) {
     match outcome {

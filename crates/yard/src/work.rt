@@ -8,6 +8,9 @@ use build::Built;
 use desk::codes::Codes;
 use desk::codes::read_codes;
 use desk::words::Way;
+use list::limits::MOST_BYTES;
+use list::limits::MOST_LISTED;
+use list::limits::MOST_TEXT;
 use table::Depth;
 use telling::lines::NAME;
 use telling::refuse::tell_cut;
@@ -22,13 +25,13 @@ use telling::tell::tell_all;
 const LIST: usize = 131072;
 
 // The room of a sheet: one byte more than a search takes.
-const SHEET: usize = 65537;
+const SHEET: usize = MOST_TEXT + 1;
 
 // As many as a list may have.
-const LISTED: usize = 1024;
+const LISTED: usize = MOST_LISTED;
 
-// The room of the tables is ample for every list within the limits: it has, with root and dead, at most 65,538 states and 1,024 outputs.
-const STATES: usize = 65538;
+// The room of the tables is ample for every list within the limits: with root and dead it has at most two states more than bytes.
+const STATES: usize = MOST_LISTED * MOST_BYTES + 2;
 
 // The kind of the tables that a search wants.
 fn kind_of(way: Way) -> u32 {
