@@ -94,7 +94,7 @@ uint32_t rotspangle_build(
  * Leaves: the matches found, in the search's order, in the sheet from its first slot, their number in *written, and in the four variables the value to
  *   go on with. Slots past the written ones stay as they were. After 9 and 10 nothing is written but *written = 0 and the value as it was; after 11
  *   the records before it stay, and the value is the one after the last of them. After the end the end is given again.
- *   *place: after a full sheet the end of the last match written, at the end the text's length. *moves: those of the walk over just these bytes, n of
+ *   *place: after a full sheet the end of the last match written (as it was if there is no slot), at the end the text's length. *moves: those of the walk over just these bytes, n of
  *   them: at most 2n - 1, none for n = 0; leftmost search reports 0. (From a fresh value, over the tables of a good build.) */
 #define ROTSPANGLE_SEARCH(name)                                                                          \
     uint32_t name(                                                                                       \

@@ -65,7 +65,7 @@ pub record BlankLeft {kind : ℕ} {bytes ends values : List ℕ} (b : GoodBuild 
 pub record BuiltCells {kind : ℕ} {bytes ends values : List ℕ} (b : GoodBuild kind bytes ends values) : Type 0 where
   -- "Blocks of 256 cells; one block always exists"
   pub blocks : (n : ℕ) × (1 ≤ n) × (b .counts .cells ≡ n * block)
-  -- "Cell 0 is root": no other state is there
+  -- "Cell 0 is root", by the definition of `cellLeft`: and no other state is there
   pub root : cellLeft b [] ≡ 0
   pub root-alone : (s : List ℕ) → IsState b s → cellLeft b s ≡ 0 → s ≡ []
   -- "1 is dead": no state is there
@@ -77,7 +77,7 @@ pub record BuiltCells {kind : ℕ} {bytes ends values : List ℕ} (b : GoodBuild
   pub nonzero : (s : List ℕ) (c : ℕ) → IsState b (snoc s c) → baseLeft b s ≢ 0
   -- "used by no other state"
   pub unshared : (s t : List ℕ) (c : ℕ) → IsState b (snoc s c) → IsState b t → baseLeft b s ≡ baseLeft b t → s ≡ t
-  -- "its child on byte c sits at b xor c"
+  -- "its child on byte c sits at b xor c", by the definition of `cellLeft`: that no other state sits there is `apart`, that a probe finds it is `probe`
   pub child : (s : List ℕ) (c : ℕ) → cellLeft b (snoc s c) ≡ bitXor (baseLeft b s) c
   -- "with check c"
   pub child-check : (s : List ℕ) (c : ℕ) → IsState b (snoc s c) → getD (b .exit .check) (bitXor (baseLeft b s) c) 0 ≡ c
