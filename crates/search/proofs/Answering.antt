@@ -18,10 +18,10 @@ use Rattle.search.specs.declared.keep.Kept.the-variants as kept
 use Rattle.search.specs.Values.{Which, overlapping, plain, leftmost, root, valueOf, matchOf, Outcome, gives, ends, refuses}
 use Rattle.search.specs.Searches.{seekOf, keepOf, rest, cleared, from, isLeftmost, afterLeftmost, atOutput, atEnd, walkOf, nextOf}
 use Rattle.search.specs.Damage.{WalkMeets, KeepMeets, ShowsAtFirst, Damaged, at-first, in-walk, with-match}
-use Rattle.search.specs.Claims.{WrongKind}
+use Rattle.search.specs.Claims.{WrongKind, Lies}
 use Rattle.search.proofs.Hunting.{never}
 use Rattle.search.proofs.Stepping.{ended}
-use Rattle.search.proofs.Meeting.{seeking, Comes, comes, keeping}
+use Rattle.search.proofs.Meeting.{seeking, Comes, comes, keeping, match-there, KeptLies, keep-lies}
 use Rattle.search.proofs.Entering.{Ready, Course, wrong, long, shows, walks, course}
 
 -- ---- what an answer says
@@ -59,7 +59,7 @@ module _ {w : Which} {T : Tables} {kind : ℕ} {text : List ℕ} {v : Search} wh
 
 -- what an answer says of the call
 abbrev pub Says : Which → Tables → ℕ → List ℕ → Search → Outcome → Type 0
-Says w T kind text v (gives m u) = AfterMatch w m u
+Says w T kind text v (gives m u) = AfterMatch w m u × Lies (v .place) (length text) m
 Says w T kind text v (ends u) = (WrongKind w kind → ⊥) × (length text ≤ mostText) × AfterEnd w text u
 Says w T kind text v (refuses n u) = (u ≡ v) × Cause w T kind text v n
 
@@ -92,17 +92,38 @@ module _ (T : Tables) (kind : ℕ) (text : List ℕ) (v : Search) (short : lengt
   held row at = keepOf T (matchOf row (at .place)) at (rest text at)
 
   held-meets : (row : Row) (at : Search) → found leftmost ≡ sought.Given row at → (held row at ≡ kept.Damage) ↔ KeepMeets T at (rest text at)
-  held-meets row at e = keeping T (F .rooms) (rest text at) (matchOf row (at .place)) at (comes-to leftmost (sought.Given row at) e)
+  held-meets row at e = keeping T (F .rooms) (rest text at) (matchOf row (at .place)) at (comes-to leftmost (sought.Given row at) e .state)
+
+  -- the match of the first output, and the one that a leftmost walk keeps, lie in the text from the value's place on
+  whole-rest : (w : Which) → length text ≡ from w v .place + length (rest text (from w v))
+  whole-rest w = sym (taken-left text (from w v) (begin w .place))
+
+  same-place : (w : Which) → from w v .place ≡ v .place
+  same-place overlapping = refl
+  same-place plain = refl
+  same-place leftmost = refl
+
+  lies-there : (w : Which) (row : Row) (at : Search) → found w ≡ sought.Given row at → Lies (v .place) (length text) (matchOf row (at .place))
+  lies-there w row at e =
+      subst (λ (p : ℕ). Lies p (length text) (matchOf row (at .place))) (same-place w)
+      (match-there T (from w v) (rest text (from w v)) row at (length text) (whole-rest w) (comes-to w (sought.Given row at) e))
+
+  held-lies : (row : Row) (at : Search) → found leftmost ≡ sought.Given row at → KeptLies (v .place) (length text) (held row at)
+  held-lies row at e =
+      let G = comes-to leftmost (sought.Given row at) e in
+      let within : at .place ≤ length text = omega (arith, G .to, whole-rest leftmost) in
+      keep-lies T (F .rooms) (v .place) (length text) (rest text at) (matchOf row (at .place)) at (G .state) (G .from) (sym (taken-left text at within))
+      (lies-there leftmost row at e)
 
   -- the answers at an output and at the text's end
   output-says : (w : Which) → (WrongKind w kind → ⊥) → (row : Row) (at : Search) → found w ≡ sought.Given row at
       → Says w T kind text v (atOutput w T text v row at)
-  output-says overlapping n row at e = refl
-  output-says plain n row at e = (refl, refl, refl)
+  output-says overlapping n row at e = (refl, lies-there overlapping row at e)
+  output-says plain n row at e = ((refl, refl, refl), lies-there plain row at e)
   output-says leftmost n row at e = go (held row at) refl
     where
       go : (r : Kept) → held row at ≡ r → Says leftmost T kind text v (atOutput leftmost T text v row at)
-      go (kept.Given m stop) k = rw k refl
+      go (kept.Given m stop) k = rw k (refl, subst (KeptLies (v .place) (length text)) k (held-lies row at e))
       go kept.Damage k = rw k (refl, eleven-caused n short (with-match row at refl e (held-meets row at e .0 k)))
 
   end-says : (w : Which) → (WrongKind w kind → ⊥) → (at : Search) → at .place ≡ length text → at .output ≡ 0 → Says w T kind text v (atEnd w at)

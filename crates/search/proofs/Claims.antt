@@ -66,7 +66,8 @@ claims w T kind text v =
       nine = ((λ e. told w T kind text v (refuses 9 v) e .1 .nine refl), nine-told w T kind text v);
       ten = ((λ e. told w T kind text v (refuses 10 v) e .1 .ten refl), λ q. ten-told w T kind text v (q .0) (q .1));
       eleven = ((λ e. told w T kind text v (refuses 11 v) e .1 .eleven refl), λ q. eleven-told w T kind text v (q .0) (q .1) (q .2));
-      at-match = λ m u e. match-leaves w m u (told w T kind text v (gives m u) e);
+      match-lies = λ m u e. told w T kind text v (gives m u) e .1;
+      at-match = λ m u e. match-leaves w m u (told w T kind text v (gives m u) e .0);
       at-end = λ u e. end-leaves w text u (told w T kind text v (ends u) e .2);
       end-again = λ u e. let S = told w T kind text v (ends u) e in end-told w T kind text u (S .0) (S .1) (S .2);
     }
@@ -74,6 +75,6 @@ claims w T kind text v =
 pub leftmost-claims : (T : Tables) (kind : ℕ) (text : List ℕ) (v : Search) → LeftmostClaims T kind text v
 leftmost-claims T kind text v =
     record {
-      no-moves-given = λ m u e. ap (λ (x : Search). x .moves) (told leftmost T kind text v (gives m u) e);
+      no-moves-given = λ m u e. ap (λ (x : Search). x .moves) (told leftmost T kind text v (gives m u) e .0);
       no-moves-ended = λ u e. ap (λ (x : Search). x .moves) (told leftmost T kind text v (ends u) e .2);
     }

@@ -3,7 +3,7 @@ use mathlib.Core.Path.{_≡_, refl}
 use mathlib.Core.Bool.{Bool, true}
 use mathlib.Core.List.{List, [], _∷_}
 use mathlib.Core.Logic.{_↔_}
-use Prim.Native.Nat.{ℕ, _+_, _<_}
+use Prim.Native.Nat.{ℕ, _+_, _≤_, _<_}
 use native.Mathlib.Omega.{arith}
 use lib.Dec.{eqb}
 use lib.ListN.{length}
@@ -12,16 +12,19 @@ use Rattle.table.specs.Agrees.{Tables, Rooms}
 use Rattle.table.specs.declared.Row.{Row}
 use Rattle.table.specs.declared.Shown.{Shown}
 use Rattle.table.specs.declared.Shown.the-variants as shown
+use Rattle.table.proofs.Claims as readers
 use Rattle.search.specs.declared.Search.{Search}
 use Rattle.search.specs.declared.Match.{Match}
 use Rattle.search.specs.declared.walk.Moved.the-variants as moved
 use Rattle.search.specs.declared.seek.Sought.{Sought}
 use Rattle.search.specs.declared.seek.Sought.the-variants as sought
+use Rattle.search.specs.declared.keep.Kept.{Kept}
 use Rattle.search.specs.declared.keep.Kept.the-variants as kept
 use Rattle.search.specs.Values.{root, matchOf}
 use Rattle.search.specs.Walk.{stepOf}
-use Rattle.search.specs.Searches.{shownAt, seekOf, keepOf}
+use Rattle.search.specs.Searches.{onShown, shownAt, seekOf, keepOf}
 use Rattle.search.specs.Damage.{OutputBroken, WalkMeets, at-output, in-hunt, after-byte, KeepMeets, keep-in-hunt, keep-at-output, keep-after-byte}
+use Rattle.search.specs.Claims.{Lies}
 use Rattle.search.proofs.Hunting.{never}
 use Rattle.search.proofs.Stepping.{output-broken, broken-output, ended, Steps, stops, goes, steps, stepped, step-below}
 
@@ -92,16 +95,31 @@ module _ (T : Tables) (R : Rooms T) (falling : Bool) where
 
 -- ---- what the walk up to an output comes to
 
--- a cell at an output; at the end of the bytes no output is left to give, and they are all taken
+-- an output that is given: the state is a cell, the place is from here to the end of the bytes, and the length is neither 0 nor above the place
+pub record GivenThere (T : Tables) (v : Search) (bytes : List ℕ) (row : Row) (at : Search) : Type 0 where
+  pub state : at .state .0 < T .cells
+  pub from : v .place ≤ at .place
+  pub to : at .place ≤ v .place + length bytes
+  pub some : 1 ≤ row .length
+  pub fits : row .length ≤ at .place
+
+-- what is shown at a value is given there
+given-here : (T : Tables) (v : Search) (bytes : List ℕ) (row : Row) → shownAt T v ≡ shown.Given row → v .state .0 < T .cells → GivenThere T v bytes row v
+given-here T v bytes row s h =
+    let G = readers.claims .given (T .outs) (T .accepted) (v .output) (v .place) (row .value) (row .length) (row .next) .0 s in
+    record { state = h; from = omega arith; to = omega arith; some = G .filled; fits = G .fits }
+
+-- at an output this; at the end of the bytes no output is left to give, and they are all taken
 abbrev pub Comes : Tables → Search → List ℕ → Sought → Type 0
-Comes T v bytes (sought.Given row at) = at .state .0 < T .cells
+Comes T v bytes (sought.Given row at) = GivenThere T v bytes row at
 Comes T v bytes (sought.End at) = (at .output ≡ 0) × (at .place ≡ v .place + length bytes)
 Comes T v bytes sought.Damage = Unit {0}
 
 -- what it comes to from one byte further on, it comes to from here
 comes-back : (T : Tables) (v w : Search) (c : ℕ) (bytes : List ℕ) → w .place ≡ v .place + 1 → (r : Sought) → Comes T w bytes r
     → Comes T v (c ∷ bytes) r
-comes-back T v w c bytes p (sought.Given row at) C = C
+comes-back T v w c bytes p (sought.Given row at) C =
+    record { state = C .state; from = omega (arith, C .from); to = omega (arith, C .to); some = C .some; fits = C .fits }
 comes-back T v w c bytes p (sought.End at) C = (C .0, omega (arith, C .1))
 comes-back T v w c bytes p sought.Damage C = tt
 
@@ -112,7 +130,7 @@ module _ (T : Tables) (R : Rooms T) (falling : Bool) where
   comes-end v h = go (shownAt T v) refl
     where
       go : (r : Shown) → shownAt T v ≡ r → Comes T v [] (seekOf falling T v [])
-      go (shown.Given row) s = rw s h
+      go (shown.Given row) s = rw s (given-here T v [] row s h)
       go shown.Nothing s = rw s (ended T v .0 s, omega arith)
       go shown.Damage s = rw s tt
 
@@ -128,7 +146,7 @@ module _ (T : Tables) (R : Rooms T) (falling : Bool) where
       onward s (goes n w q l p) = rw (s, q) (comes-back T v w c bytes p (seekOf falling T w bytes) (next w l))
 
       go : (r : Shown) → shownAt T v ≡ r → Comes T v (c ∷ bytes) (seekOf falling T v (c ∷ bytes))
-      go (shown.Given row) s = rw s h
+      go (shown.Given row) s = rw s (given-here T v (c ∷ bytes) row s h)
       go shown.Nothing s = onward s (steps T R falling v c h)
       go shown.Damage s = rw s tt
 
@@ -179,3 +197,46 @@ module _ (T : Tables) (R : Rooms T) where
   unfolding keepOf
   keeping [] m v h = ((λ e. absurd (kept-not e)), λ M. absurd (byte-left M))
   keeping (c ∷ bytes) m v h = keeping-byte m v c bytes h (λ k w l. keeping bytes k w l)
+
+-- ---- the match that is kept
+
+-- the match of an output that is given there lies there
+pub match-there : (T : Tables) (v : Search) (bytes : List ℕ) (row : Row) (at : Search) (to : ℕ) → to ≡ v .place + length bytes → GivenThere T v bytes row at
+    → Lies (v .place) to (matchOf row (at .place))
+match-there T v bytes row at to e G =
+    record { not-empty = omega (arith, G .some, G .fits); ends-from = G .from; ends-to = omega (arith, G .to) }
+
+-- what is kept lies there
+abbrev pub KeptLies : ℕ → ℕ → Kept → Type 0
+KeptLies from to (kept.Given m stop) = Lies from to m
+KeptLies from to kept.Damage = Unit {0}
+
+-- so does what the walk with such a match in hand keeps last
+pub keep-lies : (T : Tables) → Rooms T → (from to : ℕ) (bytes : List ℕ) (m : Match) (v : Search) → v .state .0 < T .cells → from ≤ v .place
+    → to ≡ v .place + length bytes
+    → Lies from to m
+    → KeptLies from to (keepOf T m v bytes)
+unfolding keepOf
+keep-lies T R from to [] m v h f e L = L
+keep-lies T R from to (c ∷ bytes) m v h f e L = go (keep-lies T R from to bytes) (steps T R true v c h)
+  where
+    onward : ((m' : Match) (u : Search) → u .state .0 < T .cells → from ≤ u .place → to ≡ u .place + length bytes → Lies from to m'
+        → KeptLies from to (keepOf T m' u bytes))
+        → (w : Search) → w .state .0 < T .cells → w .place ≡ v .place + 1
+        → (r : Shown) → shownAt T w ≡ r
+        → KeptLies from to (onShown r (λ row. keepOf T (matchOf row (w .place)) w bytes) (keepOf T m w bytes) kept.Damage)
+    onward more w l p (shown.Given row) s =
+        let G = given-here T w bytes row s l in
+        more (matchOf row (w .place)) w l (omega arith) (omega arith)
+        (record { not-empty = omega (arith, G .some, G .fits); ends-from = omega arith; ends-to = omega arith })
+    onward more w l p shown.Nothing s = more m w l (omega arith) (omega arith) L
+    onward more w l p shown.Damage s = tt
+
+    go : ((m' : Match) (u : Search) → u .state .0 < T .cells → from ≤ u .place → to ≡ u .place + length bytes → Lies from to m'
+        → KeptLies from to (keepOf T m' u bytes))
+        → Steps true T v c → KeptLies from to (keepOf T m v (c ∷ bytes))
+    go more (stops M q) = rw q tt
+    go more (goes n w q l p) =
+        rw q
+        (test (eqb (w .state .0) root) (λ z. rw z L)
+        (λ z. rw z (onward more w l p (shownAt T w) refl)))

@@ -25,6 +25,12 @@ RootIfLeftmost overlapping u = Unit {0}
 RootIfLeftmost plain u = Unit {0}
 RootIfLeftmost leftmost u = u .state .0 ≡ root
 
+-- a match with a byte or more, whose end lies between two places
+pub record Lies (from to : ℕ) (m : Match) : Type 0 where
+  pub not-empty : m .start < m .end
+  pub ends-from : from ≤ m .end
+  pub ends-to : m .end ≤ to
+
 -- plain and leftmost search go on at root with no output to give
 abbrev pub RootAfterMatch : Which → Search → Type 0
 RootAfterMatch overlapping u = Unit {0}
@@ -43,6 +49,8 @@ pub record SearchClaims (w : Which) (T : Tables) (kind : ℕ) (text : List ℕ) 
   pub ten : (nextOf w T kind text v ≡ refuses 10 v) ↔ ((WrongKind w kind → ⊥) × (mostText < length text))
   -- 11: it isn't, and damage is met
   pub eleven : (nextOf w T kind text v ≡ refuses 11 v) ↔ ((WrongKind w kind → ⊥) × (length text ≤ mostText) × Damaged w T kind text v)
+  -- a match is a stretch of the text with a byte or more, which ends at the value's place or later
+  pub match-lies : (m : Match) (u : Search) → nextOf w T kind text v ≡ gives m u → Lies (v .place) (length text) m
   -- at a match the place is the match's end; plain and leftmost search are at root there with no output to give
   pub at-match : (m : Match) (u : Search) → nextOf w T kind text v ≡ gives m u → (u .place ≡ m .end) × RootAfterMatch w u
   -- the end leaves the place at the text's end with no output to give, leftmost with state root
