@@ -1,5 +1,5 @@
 -- One answer only: for each public function of the crates that users link (`table`, `build`, `search`, `sheet`, `exports`), no second answer, and no second
--- lot of lent tables, could meet its promise. There is no exception. The proofs stand in ../proofs; `one-answer` there has them all.
+-- lot of lent tables, could meet its promise. No function of theirs is excepted; inner crates are (docs/READING.md). The proofs stand in ../proofs; `one-answer` there has them all.
 use mathlib.Core.Path.{_≡_}
 use mathlib.Core.List.{List}
 use Prim.Native.Nat.{ℕ}
