@@ -5,12 +5,13 @@ use Prim.Native.Nat.{ℕ, zero, suc, _≤_}
 use native.Mathlib.Nat.{not-suc-le-zero, le-of-suc-le-suc}
 use native.Mathlib.Omega.{arith}
 use lib.ListN.{take, replicate}
+use Rattle.paper.proofs.Tests.{ne-eqb}
 use Rattle.paper.specs.Lists.{same, prefix, those, each}
 use Rattle.paper.specs.Patterns.{rowsFrom}
 use Rattle.paper.specs.Matches.{occurs, between, endingAt, byEnd, overlapping}
 use Rattle.paper.specs.Automaton.{isState, ownOf, longestState, failure, begins, before, isDead, link, hunt, chain, step, walk}
 use Rattle.paper.specs.Cases.{bytes}
-use Rattle.search.specs.Values as search
+use Rattle.search.specs.declared.Search.{Search}
 use Rattle.meaning.specs.Repeated.{answers, Saying, match, end, refusal, said}
 use Rattle.meaning.specs.Demands.{StandardDemands}
 use Rattle.meaning.specs.ShutOut.{alone, having, atOnceTheEnd, alwaysOneMatch, onceWith, wholeTextAtOnce, madeUpCount, SaysRight, ShutOut}
@@ -39,39 +40,39 @@ always-one-match D = let e : _≡_ {A = ℕ} 0 1 = ap lastSort (D .overlapping-s
 
 -- ---- demand 3
 
-ends-again : (p : List ℕ) (m n : ℕ) → map said (answers (onceWith p (having 2 m) search.overlapping) n (having 2 m)) ≡ replicate n end
+ends-again : (p : List ℕ) (given : Search) (place moves k n : ℕ)
+    → map said (answers (onceWith p given (having (suc place) moves)) n (having (suc place) k)) ≡ replicate n end
 unfolding answers
-ends-again p m zero = refl
-ends-again p m (suc n) = ap (λ (r : List Saying). end ∷ r) (ends-again p m n)
+ends-again p given place moves k zero = refl
+ends-again p given place moves k (suc n) =
+    rw (ne-eqb (suc place) 0 (λ e. omega (arith, e))) (ap (λ (r : List Saying). end ∷ r) (ends-again p given place moves moves n))
 
 first-ends : (n k : ℕ) → n ≤ k → take n (replicate k end) ≡ replicate n end
 first-ends zero k h = refl
 first-ends (suc n) zero h = absurd (not-suc-le-zero h)
 first-ends (suc n) (suc k) h = ap (λ (r : List Saying). end ∷ r) (first-ends n k (le-of-suc-le-suc h))
 
-whole-text-says : SaysRight wholeTextAtOnce (bytes "a")
+whole-text-says : SaysRight wholeTextAtOnce (bytes "abc") (bytes "abcd")
 unfolding answers prefix those each rowsFrom occurs between endingAt byEnd overlapping
 whole-text-says zero = refl
 whole-text-says (suc n) =
-    ap (λ (r : List Saying). match (record { start = 0; end = 1; payload = 0 }) ∷ r)
-    (ends-again (bytes "a") _ n ∙ sym (first-ends n (suc n) (omega arith)))
+    ap (λ (r : List Saying). match (record { start = 0; end = 3; payload = 0 }) ∷ r)
+    (ends-again (bytes "abc") (having 4 5) 3 5 5 n ∙ sym (first-ends n (suc n) (omega arith)))
 
-made-up-says : SaysRight madeUpCount (bytes "ab")
+made-up-says : SaysRight madeUpCount (bytes "ab") (bytes "ab")
 unfolding answers prefix those each rowsFrom occurs between endingAt byEnd overlapping
 made-up-says zero = refl
 made-up-says (suc n) =
     ap (λ (r : List Saying). match (record { start = 0; end = 2; payload = 0 }) ∷ r)
-    (ends-again (bytes "ab") _ n ∙ sym (first-ends n (suc n) (omega arith)))
+    (ends-again (bytes "ab") (having 2 3) 1 2 3 n ∙ sym (first-ends n (suc n) (omega arith)))
 
-whole-text-at-once : StandardDemands wholeTextAtOnce (alone (bytes "a")) (0 ∷ []) (bytes "ab") → ⊥
+whole-text-at-once : StandardDemands wholeTextAtOnce (alone (bytes "abc")) (0 ∷ []) (bytes "abcd") → ⊥
 unfolding answers same prefix those rowsFrom isState ownOf longestState failure begins before isDead link hunt chain step walk
-whole-text-at-once D =
-    let e : _≡_ {A = ℕ} 3 1 = D .overlapping-moves 1 _ (List·Memᴰ·head refl) .1 in omega (arith, e)
+whole-text-at-once D = let e : _≡_ {A = ℕ} 5 3 = D .overlapping-moves 1 _ (List·Memᴰ·head refl) .1 in omega (arith, e)
 
 made-up-count : StandardDemands madeUpCount (alone (bytes "ab")) (0 ∷ []) (bytes "ab") → ⊥
 unfolding answers same prefix those rowsFrom isState ownOf longestState failure begins before isDead link hunt chain step walk
-made-up-count D =
-    let e : _≡_ {A = ℕ} 3 2 = D .overlapping-moves 1 _ (List·Memᴰ·head refl) .1 in omega (arith, e)
+made-up-count D = let e : _≡_ {A = ℕ} 3 2 = D .overlapping-moves 1 _ (List·Memᴰ·head refl) .1 in omega (arith, e)
 
 pub shut-out : ShutOut
 shut-out =

@@ -1,5 +1,5 @@
--- Wrong searches that document 01 wants shut out, each as a program on search values, on the smallest pattern and text that tell. No such program
--- meets the demands. The last two say the right matches and then the end: their counts alone shut them out. The proofs stand in ../proofs.
+-- Wrong searches that document 01 wants shut out, each as a program on search values, on a small pattern and text. No such program meets the demands. The
+-- last two say the right matches and then the end, keep the bound, and have the right count at the end: the count at the match alone shuts them out. The proofs stand in ../proofs.
 use mathlib.Core.Path.{_≡_}
 use mathlib.Core.List.{List, [], _∷_, map}
 use Prim.Native.Nat.{ℕ}
@@ -36,28 +36,30 @@ atOnceTheEnd w v = ends (having 1 1)
 abbrev pub alwaysOneMatch : Which → Search → Outcome
 alwaysOneMatch w v = gives (atFront (bytes "a")) (having 1 1)
 
--- from a fresh value the match of a pattern with this value, from any other the end with it
-abbrev pub onceWith : List ℕ → Search → Which → Search → Outcome
-onceWith p u w v = pick (eqb (v .place) 0) (gives (atFront p) u) (ends u)
+-- from a fresh value the match of a pattern with one value, from any other the end with another
+abbrev pub onceWith : List ℕ → Search → Search → Search → Outcome
+onceWith p given ended v = pick (eqb (v .place) 0) (gives (atFront p) given) (ends ended)
 
--- walks the whole of ab in its first call, gives a with the final place and count, and then the end
+-- walks the whole of abcd in its first call, gives abc with the final place and count, and then the end; plain search, at root after abc, follows no link
 abbrev pub wholeTextAtOnce : Which → Search → Outcome
-wholeTextAtOnce = onceWith (bytes "a") (having 2 3)
+wholeTextAtOnce search.overlapping = onceWith (bytes "abc") (having 4 5) (having 4 5)
+wholeTextAtOnce search.plain = onceWith (bytes "abc") (having 4 4) (having 4 4)
+wholeTextAtOnce search.leftmost = onceWith (bytes "abc") (having 4 0) (having 4 0)
 
--- finds ab in ab with a count made up under 2n
+-- finds ab in ab with a count made up under 2n, which is right again at the end
 abbrev pub madeUpCount : Which → Search → Outcome
-madeUpCount = onceWith (bytes "ab") (having 2 3)
+madeUpCount w = onceWith (bytes "ab") (having 2 3) (having 2 2)
 
--- overlapping search by this program says what it should of a pattern in ab
-abbrev pub SaysRight : (Which → Search → Outcome) → List ℕ → Type 0
-SaysRight next p =
-    (n : ℕ) → map said (answers (next search.overlapping) n begun) ≡ thenEnd n (withPayloads (valueIn (0 ∷ [])) (overlapping (alone p) (bytes "ab")))
+-- overlapping search by this program says what it should of a pattern in a text
+abbrev pub SaysRight : (Which → Search → Outcome) → List ℕ → List ℕ → Type 0
+SaysRight next p text =
+    (n : ℕ) → map said (answers (next search.overlapping) n begun) ≡ thenEnd n (withPayloads (valueIn (0 ∷ [])) (overlapping (alone p) text))
 
 -- what is proved
 pub record ShutOut : Type 0 where
   pub at-once-the-end : StandardDemands atOnceTheEnd (alone (bytes "a")) (0 ∷ []) (bytes "a") → ⊥
   pub always-one-match : StandardDemands alwaysOneMatch (alone (bytes "a")) (0 ∷ []) (bytes "a") → ⊥
-  pub whole-text-says : SaysRight wholeTextAtOnce (bytes "a")
-  pub whole-text-at-once : StandardDemands wholeTextAtOnce (alone (bytes "a")) (0 ∷ []) (bytes "ab") → ⊥
-  pub made-up-says : SaysRight madeUpCount (bytes "ab")
+  pub whole-text-says : SaysRight wholeTextAtOnce (bytes "abc") (bytes "abcd")
+  pub whole-text-at-once : StandardDemands wholeTextAtOnce (alone (bytes "abc")) (0 ∷ []) (bytes "abcd") → ⊥
+  pub made-up-says : SaysRight madeUpCount (bytes "ab") (bytes "ab")
   pub made-up-count : StandardDemands madeUpCount (alone (bytes "ab")) (0 ∷ []) (bytes "ab") → ⊥
