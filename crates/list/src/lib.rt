@@ -1,4 +1,6 @@
 // Inner: the pattern list as it is lent, with its readers and refusals 1 to 5. Nothing here writes to a buffer.
+#![tactic(auto)]
+
 ghost use Rattle.std.specs.Prelude.{◌≡◌, false, ◌&&◌, List, ℕ, ◌<◌, leb, length};
 ghost use Rattle.list.specs.Refusals.{lowest};
 ghost use Rattle.list.specs.Listed.{patterns_of, start_of, end_of, falls, ends_wrong, sized, first_where, refusals};
