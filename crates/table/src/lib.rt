@@ -1,5 +1,7 @@
 // The tables that a search reads, by their readers. Each reader asks nothing: on any tables and any numbers it answers, or it tells damage.
 // A search needs nothing else of the tables.
+#![tactic(auto)]
+
 ghost use Rattle.std.specs.Prelude.{◌≡◌, length};
 ghost use Rattle.table.specs.Readers.{there, can_end, probe_of, link_of, place_of, output_of};
 

@@ -1,5 +1,7 @@
 // Inner: zero to every slot of a lent table. A slot is a number, a byte or a row of numbers, and there is one function for each
 // kind (there are no generics); one law over the element, `fill_more`, proves them all.
+#![tactic(auto)]
+
 ghost use Rattle.std.specs.Prelude.{◌≡◌, length, replicate};
 ghost use Rattle.zeros.specs.Rows.{zeros};
 
