@@ -16,7 +16,7 @@ mod slots;
 
 use phases::{Progress, phases};
 
-#[derive(Drop)]
+#[derive(Clone, Copy)]
 pub enum Built {
     Made(Counts),
     // 1: the kind is above 2.

@@ -10,7 +10,7 @@ use placement::Blocks;
 use table::Depth;
 use trie::Grew;
 
-#[derive(Drop)]
+#[derive(Clone, Copy)]
 pub(crate) enum Progress {
     Done {
         accepted: u32,

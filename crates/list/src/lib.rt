@@ -12,7 +12,7 @@ pub mod limits;
 use limits::{LAST_KIND, MOST_BYTES, MOST_LISTED};
 
 // Whether a list can be built, and if not, why.
-#[derive(Drop)]
+#[derive(Clone, Copy)]
 pub enum Listing {
     Fine,
     BadKind,
@@ -25,7 +25,7 @@ pub enum Listing {
 }
 
 // The index of a pattern that was looked for.
-#[derive(Drop)]
+#[derive(Clone, Copy)]
 enum Lookup {
     At(usize),
     Nothing,

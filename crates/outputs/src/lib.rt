@@ -70,7 +70,7 @@ fn set_output(outs: &mut [[u32; 3]], n: u32, value: u32, size: u32, next: u32)
 }
 
 // How many outputs are stored, and where the chain that was stored last begins.
-#[derive(Drop)]
+#[derive(Clone, Copy)]
 struct Latest {
     stored: u32,
     place: u32,

@@ -17,7 +17,7 @@ use trie::TrieId;
 const CELL: usize = 5;
 
 // How many blocks there are, or that the lent cells don't suffice.
-#[derive(Drop)]
+#[derive(Clone, Copy)]
 pub enum Blocks {
     Now(u32),
     Full,

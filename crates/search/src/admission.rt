@@ -10,14 +10,14 @@ use list::limits::{LAST_KIND, MOST_TEXT};
 use table::slots::column_slots;
 use table::{Counts, Depth};
 
-#[derive(Drop)]
+#[derive(Clone, Copy)]
 pub(crate) enum Admission {
     Granted,
     Refused(Refusal),
 }
 
 // Whom tables of a kind are for.
-#[derive(Drop)]
+#[derive(Clone, Copy)]
 enum Kinds {
     These,
     Others,

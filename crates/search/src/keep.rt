@@ -9,7 +9,7 @@ use crate::walk::{Moved, step};
 use crate::{Match, ROOT, Search, matched};
 use table::{Counts, Depth, Shown};
 
-#[derive(Drop)]
+#[derive(Clone, Copy)]
 pub(crate) enum Kept {
     // The match, and where the walk stopped: at or past its end.
     Given(Match, Search),

@@ -1,6 +1,8 @@
 // The three searches over lent tables. A search value says what a search has come to; each call takes it with the tables, what the build said of
 // them, and the text, and hands back the next one with a match, the end, or a refusal. A call asks nothing: on any tables, any value and any
 // text it answers. It writes nothing, and it reads the tables through their readers alone.
+#![tactic(auto)]
+
 ghost use Rattle.std.specs.Prelude.{◌≡◌, ◌≤◌};
 ghost use Rattle.table.specs.Agrees.{lent};
 ghost use Rattle.search.specs.Values.{overlapping, plain, leftmost, value_of, begun, match_of, answer};
@@ -21,7 +23,7 @@ use seek::{Sought, seek};
 const ROOT: u32 = 0;
 
 // What a search has come to. Any value may be handed in.
-#[derive(Drop)]
+#[derive(Clone, Copy)]
 pub struct Search {
     pub state: CellId,
     // The place of the output that is given next, 0 for none.
@@ -32,14 +34,14 @@ pub struct Search {
     pub moves: u64,
 }
 
-#[derive(Drop)]
+#[derive(Clone, Copy)]
 pub struct Match {
     pub start: usize,
     pub end: usize,
     pub value: u32,
 }
 
-#[derive(Drop)]
+#[derive(Clone, Copy)]
 pub enum Refusal {
     // 9: the tables are of a kind that another search is for.
     WrongKind,
@@ -50,7 +52,7 @@ pub enum Refusal {
 }
 
 // A refusal hands back the value as it came in.
-#[derive(Drop)]
+#[derive(Clone, Copy)]
 pub enum Answer {
     Match(Match, Search),
     End(Search),

@@ -9,7 +9,7 @@ use crate::Search;
 use crate::walk::{Moved, step};
 use table::{Counts, Depth, Row, Shown};
 
-#[derive(Drop)]
+#[derive(Clone, Copy)]
 pub(crate) enum Sought {
     Given(Row, Search),
     End(Search),

@@ -10,7 +10,7 @@ use table::{Begins, CellId, Depth, Found, Linked, link, place, probe};
 // Dead's cell: a leftmost link leads there where an accepted pattern has ended before.
 const DEAD: u32 = 1;
 
-#[derive(Drop)]
+#[derive(Clone, Copy)]
 pub(crate) enum Taken {
     To(CellId, u64),
     Damage,
@@ -92,7 +92,7 @@ fn begins(leftmost: bool, output: &[u32], cells: u32, s: CellId) -> Begins
     place(output, cells, s)
 }
 
-#[derive(Drop)]
+#[derive(Clone, Copy)]
 pub(crate) enum Moved {
     On(Search),
     Damage,

@@ -1,5 +1,7 @@
 // A loading sheet: the matches of a search as records in a lent sheet, as many as it has slots, in one call. A full sheet is an answer like the end:
 // the value handed back goes on from the last record. A record is start, end and value.
+#![tactic(auto)]
+
 ghost use Rattle.std.specs.Prelude.{◌≡◌, ◌<◌, length, set};
 ghost use Rattle.list.specs.Refusals.{lowest};
 ghost use Rattle.table.specs.Agrees.{lent};
@@ -12,7 +14,7 @@ use search::{Answer, Match, Refusal, Search};
 use table::{Counts, Depth};
 
 // Why a call stopped.
-#[derive(Drop)]
+#[derive(Clone, Copy)]
 pub enum Stop {
     // Every slot is written. No further match was looked for.
     Full,
@@ -23,7 +25,7 @@ pub enum Stop {
 }
 
 // Why a call stopped, how many records it wrote, and the value to go on with.
-#[derive(Drop)]
+#[derive(Clone, Copy)]
 pub struct Filled {
     pub stop: Stop,
     pub count: usize,

@@ -19,7 +19,7 @@ const TAKEN: usize = 0;
 const USED: usize = 1;
 
 // The base that was looked for.
-#[derive(Drop)]
+#[derive(Clone, Copy)]
 pub enum Base {
     At(u32),
     Nothing,

@@ -15,7 +15,7 @@ const LENGTH: usize = 1;
 const NEXT: usize = 2;
 
 // A cell's number. A trie number is another type, so that the two can't be mixed.
-#[derive(Drop)]
+#[derive(Clone, Copy)]
 pub struct CellId(pub u32);
 
 // A state's depth, stored in its cell. Its width is named here alone: no definition and no proof knows it.
@@ -23,7 +23,7 @@ pub type Depth = u8;
 
 // What a good build says of its tables, and a search is told: the kind, and how many patterns were accepted, states made and cells used. The
 // states count root and not dead.
-#[derive(Drop)]
+#[derive(Clone, Copy)]
 pub struct Counts {
     pub kind: u32,
     pub accepted: u32,
@@ -32,7 +32,7 @@ pub struct Counts {
 }
 
 // What a probe finds.
-#[derive(Drop)]
+#[derive(Clone, Copy)]
 pub enum Found {
     At(CellId),
     Nothing,
@@ -40,14 +40,14 @@ pub enum Found {
 }
 
 // Where a failure link leads.
-#[derive(Drop)]
+#[derive(Clone, Copy)]
 pub enum Linked {
     To(CellId),
     Damage,
 }
 
 // Where the outputs of a state begin. Places count from 1.
-#[derive(Drop)]
+#[derive(Clone, Copy)]
 pub enum Begins {
     At(u32),
     Nothing,
@@ -55,7 +55,7 @@ pub enum Begins {
 }
 
 // An output: the value and the length of its pattern, and the place of the next output, 0 for none.
-#[derive(Drop)]
+#[derive(Clone, Copy)]
 pub struct Row {
     pub value: u32,
     pub length: u32,
@@ -63,7 +63,7 @@ pub struct Row {
 }
 
 // What stands at a place.
-#[derive(Drop)]
+#[derive(Clone, Copy)]
 pub enum Shown {
     Given(Row),
     Nothing,

@@ -1,5 +1,7 @@
 // Inner: the trie of the accepted patterns (the crate's `NfaBuilder::add`) in lent rows, a row for each state. Callers show that the rows
 // hold the trie of some names; what a function promises holds for whatever names they are.
+#![tactic(auto)]
+
 ghost use Rattle.std.specs.Prelude.{◌≡◌, ◌&&◌, List, [], ◌∷◌, ℕ, ◌+◌, ◌≤◌, ◌<◌, length, get_or, set};
 ghost use Rattle.zeros.specs.Rows.{field};
 ghost use Rattle.list.specs.Limits.{alphabet, most_bytes, most_listed};
@@ -11,7 +13,7 @@ ghost use Rattle.trie.specs.Made.{Parted, Made, MadeSome, GrewOk, grown_by, acce
 ghost use Rattle.trie.specs.Answers.{Known, Counted, Located, AddedOk};
 
 // A trie number: the place of a state in the order in which states were made.
-#[derive(Drop)]
+#[derive(Clone, Copy)]
 pub struct TrieId(pub u32);
 
 // The fields of a state's row.
@@ -78,7 +80,7 @@ fn wide(byte: u8) -> u32
 }
 
 // Where a byte stands among the children of a state, or between which two it would go.
-#[derive(Drop)]
+#[derive(Clone, Copy)]
 pub enum Place {
     At(TrieId),
     Between { prev: TrieId, next: TrieId },
@@ -168,7 +170,7 @@ fn insert(
     }
 }
 
-#[derive(Drop)]
+#[derive(Clone, Copy)]
 pub enum Added {
     To { state: TrieId, states: u32 },
     Full,
@@ -268,7 +270,7 @@ fn give(trie: &mut [[u32; 5]], owns: &mut [[u32; 2]], s: TrieId, row: u32, k: u3
     set_own(trie, s, k + 1);
 }
 
-#[derive(Drop)]
+#[derive(Clone, Copy)]
 pub enum Grew {
     On { states: u32, accepted: u32 },
     Full,

@@ -1,4 +1,6 @@
 // Inner: zero to every element of the lent tables of a build, past the shortest of them too.
+#![tactic(auto)]
+
 ghost use Rattle.std.specs.Prelude.{◌≡◌, length, replicate};
 ghost use Rattle.wipe.specs.Wiped.{WorkingZero, ResultsZero};
 
