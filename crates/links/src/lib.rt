@@ -1,4 +1,6 @@
 // Inner: the failure links of the trie's states (the crate's `build_fails` and `build_fails_leftmost`), breadth first.
+#![tactic(auto)]
+
 ghost use Rattle.std.specs.Prelude.{◌≡◌, List, [], ℕ, suc, ◌+◌, ◌≤◌, ◌<◌, length, get_or, take};
 ghost use Rattle.zeros.specs.Rows.{field};
 ghost use Rattle.paper.specs.Patterns.{Entry, Kind};

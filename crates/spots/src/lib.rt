@@ -1,6 +1,8 @@
 // Inner: which cells are taken and which bases are used, in lent rows, and the hunt for a group's base (the crate's `BuildHelper`). A row
 // of a taken cell says how many cells from it on are taken for certain, so that the look for a vacant cell passes them at once. Cells only
 // become taken, so what a row says stays true.
+#![tactic(auto)]
+
 ghost use Rattle.std.specs.Prelude.{◌≡◌, not, List, ℕ, ◌+◌, ◌≤◌, ◌<◌, eqb, length};
 ghost use Rattle.zeros.specs.Rows.{field};
 ghost use Rattle.paper.specs.Patterns.{Entry};

@@ -37,16 +37,16 @@ pub stopped-requires-in-End : goal.stopped-requires-in-End
 stopped-requires-in-End c = tt
 
 pub returns-in-End : goal.returns-in-End
-returns-in-End c = let a = c.args in let C = at_end_lem (next_of leftmost (lent a.base.now a.link.now a.output.now a.check.now a.depth.now a.outs.now a.counts) a.counts.kind a.text.now) _ _ _ _ _ c.loop-filled.invariant (omega (arith, c.loop-filled-test, c.loop-filled.invariant.as_long)) _ (sym c.next_leftmost.ensures ∙ ap answer c.in-End.is) in told_loaded leftmost (lent a.base.now a.link.now a.output.now a.check.now a.depth.now a.outs.now a.counts) a.counts.kind a.text.now a.value a.sheet.now _ _ _ _ C (omega (arith, c.if-sheet-eq0)) _ (ap stop_of c.stopped-in-End.ensures.0) c.stopped-in-End.ensures.1 c.stopped-in-End.ensures.2
+returns-in-End c = let both = (let a = c.args in let C = at_end_lem (next_of leftmost (lent a.base.now a.link.now a.output.now a.check.now a.depth.now a.outs.now a.counts) a.counts.kind a.text.now) _ _ _ _ _ c.loop-filled.invariant (omega (arith, c.loop-filled-test, c.loop-filled.invariant.as_long)) _ (sym c.next_leftmost.ensures ∙ ap answer c.in-End.is) in told_loaded leftmost (lent a.base.now a.link.now a.output.now a.check.now a.depth.now a.outs.now a.counts) a.counts.kind a.text.now a.value a.sheet.now _ _ _ _ C (omega (arith, c.if-sheet-eq0)) _ (ap stop_of c.stopped-in-End.ensures.0) c.stopped-in-End.ensures.1 c.stopped-in-End.ensures.2) in record { tells = both.0; sheet_after = both.1 }
 
 pub stopped-requires-in-Refused : goal.stopped-requires-in-Refused
 stopped-requires-in-Refused c = tt
 
 pub returns-in-Refused : goal.returns-in-Refused
-returns-in-Refused c = let a = c.args in let C = at_refusal (next_of leftmost (lent a.base.now a.link.now a.output.now a.check.now a.depth.now a.outs.now a.counts) a.counts.kind a.text.now) _ _ _ _ _ c.loop-filled.invariant (omega (arith, c.loop-filled-test, c.loop-filled.invariant.as_long)) _ _ (sym c.next_leftmost.ensures ∙ ap answer c.in-Refused.is) in told_loaded leftmost (lent a.base.now a.link.now a.output.now a.check.now a.depth.now a.outs.now a.counts) a.counts.kind a.text.now a.value a.sheet.now _ _ _ _ C (omega (arith, c.if-sheet-eq0)) _ (ap stop_of c.stopped-in-Refused.ensures.0) c.stopped-in-Refused.ensures.1 c.stopped-in-Refused.ensures.2
+returns-in-Refused c = let both = (let a = c.args in let C = at_refusal (next_of leftmost (lent a.base.now a.link.now a.output.now a.check.now a.depth.now a.outs.now a.counts) a.counts.kind a.text.now) _ _ _ _ _ c.loop-filled.invariant (omega (arith, c.loop-filled-test, c.loop-filled.invariant.as_long)) _ _ (sym c.next_leftmost.ensures ∙ ap answer c.in-Refused.is) in told_loaded leftmost (lent a.base.now a.link.now a.output.now a.check.now a.depth.now a.outs.now a.counts) a.counts.kind a.text.now a.value a.sheet.now _ _ _ _ C (omega (arith, c.if-sheet-eq0)) _ (ap stop_of c.stopped-in-Refused.ensures.0) c.stopped-in-Refused.ensures.1 c.stopped-in-Refused.ensures.2) in record { tells = both.0; sheet_after = both.1 }
 
 pub stopped-requires-2 : goal.stopped-requires-2
 stopped-requires-2 c = tt
 
 pub returns : goal.returns
-returns c = let a = c.args in let C = at_full (next_of leftmost (lent a.base.now a.link.now a.output.now a.check.now a.depth.now a.outs.now a.counts) a.counts.kind a.text.now) _ _ _ _ _ c.loop-filled.invariant (omega (arith, c.loop-filled-test, c.loop-filled.invariant.as_long)) in told_loaded leftmost (lent a.base.now a.link.now a.output.now a.check.now a.depth.now a.outs.now a.counts) a.counts.kind a.text.now a.value a.sheet.now _ _ _ _ C (omega (arith, c.if-sheet-eq0)) _ (ap stop_of c.stopped-2.ensures.0) c.stopped-2.ensures.1 c.stopped-2.ensures.2
+returns c = let both = (let a = c.args in let C = at_full (next_of leftmost (lent a.base.now a.link.now a.output.now a.check.now a.depth.now a.outs.now a.counts) a.counts.kind a.text.now) _ _ _ _ _ c.loop-filled.invariant (omega (arith, c.loop-filled-test, c.loop-filled.invariant.as_long)) in told_loaded leftmost (lent a.base.now a.link.now a.output.now a.check.now a.depth.now a.outs.now a.counts) a.counts.kind a.text.now a.value a.sheet.now _ _ _ _ C (omega (arith, c.if-sheet-eq0)) _ (ap stop_of c.stopped-2.ensures.0) c.stopped-2.ensures.1 c.stopped-2.ensures.2) in record { tells = both.0; sheet_after = both.1 }
