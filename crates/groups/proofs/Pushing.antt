@@ -98,7 +98,8 @@ module _ {es : List Entry} {trie notes₀ notes : List (List ℕ)} (T : Stands e
           walk = walk_next T A.walk nz;
           stack = kid ∷ A.stack;
           top_is = omega (arith, A.top_is);
-          stack_is = rw A.top_is (stack_more (names alphabet es) notes A.stack t kid (omega (arith, A.top_is)) kid_named A.stack_is);
+          stack_is = subst (λ (m : ℕ). Stack (names alphabet es) (with_stacked notes m t) (kid ∷ A.stack)) (sym A.top_is)
+              (stack_more (names alphabet es) notes A.stack t kid (omega (arith, A.top_is)) kid_named A.stack_is);
           to_come = next;
           kept = λ k f l. stacked_keeps notes top t h k f l ∙ A.kept k f l;
         }

@@ -1,4 +1,6 @@
 // Inner: the order of the sibling groups (the crate's `sibling_groups` without weights) as a table, depth first from a stack.
+#![tactic(auto)]
+
 ghost use Rattle.std.specs.Prelude.{◌≡◌, List, ℕ, ◌<◌, length};
 ghost use Rattle.zeros.specs.Rows.{field};
 ghost use Rattle.paper.specs.Patterns.{Entry};

@@ -1,4 +1,6 @@
 // Inner: the trie of a list with its links (the crate's `NfaBuilder`), the automaton before its outputs are stored and its states placed.
+#![tactic(auto)]
+
 ghost use Rattle.std.specs.Prelude.{◌≡◌, ◌≤◌, ◌<◌, length};
 ghost use Rattle.list.specs.Limits.{smaller};
 ghost use Rattle.list.specs.Kinds.{kind_of};

@@ -151,7 +151,7 @@ module _ {kind : Kind} {es : List Entry} {trie owns notes₀ : List (List ℕ)} 
     state_pile : Pile (owns_of owns) T.accepted (field trie t 4) own
     state_pile =
         subst (λ (w : List ℕ). Pile (owns_of owns) T.accepted (field trie t 4) (reverse (own_of es w))) state_named.is
-        (T.made.piled T.Own-room t state_named.inside state_named.apart)
+        (T.made.piled T.own_room t state_named.inside state_named.apart)
 
     in_state : {x : Entry} → Memᴰ x own → Memᴰ x es × (x.word ≡ s)
     in_state m = in_own es s (of_reverse (own_of es s) m)
@@ -177,7 +177,7 @@ module _ {kind : Kind} {es : List Entry} {trie owns notes₀ : List (List ℕ)} 
         record {
           own = own;
           bound = T.accepted;
-          within = T.Own-room;
+          within = T.own_room;
           pile = state_pile;
           valued = λ x m. T.valued x (in_state m).0;
           room = omega (arith, next_few, T.out_room);

@@ -1,5 +1,7 @@
 // Inner: the outputs of the trie's states (the crate's `NfaBuilder::build_outputs`) in one lent table. Each state's own outputs are stored
 // last first on the chain of the state that it links to, so a chain shows them in list order. Places count from 1; 0 is none.
+#![tactic(auto)]
+
 ghost use Rattle.std.specs.Prelude.{◌≡◌, List, [], ◌∷◌, ℕ, ◌<◌, length, get_or, set};
 ghost use Rattle.zeros.specs.Rows.{field};
 ghost use Rattle.paper.specs.Patterns.{Entry, Kind};
