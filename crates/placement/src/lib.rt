@@ -1,4 +1,6 @@
 // Inner: each group gets its base, and each state its cell (the crate's `BuildHelper::new`), in the order of a lent table of groups.
+#![tactic(auto)]
+
 ghost use Rattle.std.specs.Prelude.{◌≡◌, List, ℕ, ◌<◌, length};
 ghost use Rattle.zeros.specs.Rows.{field};
 ghost use Rattle.paper.specs.Patterns.{Entry};
