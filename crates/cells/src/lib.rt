@@ -1,4 +1,6 @@
 // Inner: the cells of the placed states, in lent columns that are zero (the crate's `build_double_array` and `remove_invalid_checks`).
+#![tactic(auto)]
+
 ghost use Rattle.std.specs.Prelude.{◌≡◌, List, ℕ, ◌+◌, ◌*◌, ◌≤◌, ◌<◌, length};
 ghost use Rattle.zeros.specs.Rows.{field};
 ghost use Rattle.paper.specs.Patterns.{Entry};
