@@ -13,8 +13,8 @@ nothing_to_build() {
     exit 3
 }
 
-archive="${ROTSPANGLE_LIB:-$top/target/staticlib}/libexports.a"
-[ -f "$archive" ] || nothing_to_build "there is no libexports.a (rt staticlib exports makes it)"
+archive="${ROTSPANGLE_LIB:-$top/crates/exports/out}/libexports.a"
+[ -f "$archive" ] || nothing_to_build "there is no libexports.a (rt lib in crates/exports makes it)"
 told=$(sh "$top/oracle/build.sh") || nothing_to_build "${told#oracle: not built, }"
 
 crate=$(sed -n 's|"\.\./daachorse"|"../../oracle/daachorse"|; /^daachorse = /p' "$top/target/oracle/package/Cargo.toml")

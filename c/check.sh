@@ -3,7 +3,7 @@
 set -eu
 
 here=$(cd "$(dirname "$0")" && pwd)
-library="$here/../target/staticlib/libexports.a"
+library="$here/../crates/exports/out/libexports.a"
 compiler=${CC:-cc}
 
 if ! command -v "$compiler" >/dev/null 2>&1; then
@@ -11,7 +11,7 @@ if ! command -v "$compiler" >/dev/null 2>&1; then
     exit 0
 fi
 if [ ! -f "$library" ]; then
-    echo "c: there is no static library yet: rt staticlib exports"
+    echo "c: there is no static library yet: (cd crates/exports && rt lib)"
     exit 1
 fi
 out=$(mktemp -d)

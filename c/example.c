@@ -1,5 +1,5 @@
 /* From a list to its matches, in C: builds four codes and phrases, searches a job sheet in the three ways, two records at a time, and shows a refusal.
- * cc -std=c11 c/example.c target/staticlib/libexports.a -o example */
+ * cc -std=c11 c/example.c crates/exports/out/libexports.a -o example */
 #include <inttypes.h>
 #include <stdio.h>
 #include <string.h>

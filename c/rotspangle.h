@@ -1,4 +1,4 @@
-/* Rotspangle for C: a multi-pattern matcher whose code is proved. Link `libexports.a` (`rt staticlib exports` writes it to target/staticlib/; x86-64).
+/* Rotspangle for C: a multi-pattern matcher whose code is proved. Link `libexports.a` (`rt lib` in crates/exports writes it to crates/exports/out/; x86-64).
  *
  * Every table, text and sheet is lent by the caller; nothing is allocated, nothing is kept between calls, and no call writes anything but what is
  * named here as written. The functions ask for no particular contents: on any list, tables, search value and text they answer and end, with a refusal

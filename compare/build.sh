@@ -5,7 +5,7 @@ set -eu
 
 here=$(cd "$(dirname "$0")" && pwd)
 out="$here/../target/compare"
-archive="${ROTSPANGLE_LIB:-$here/../target/staticlib}/libexports.a"
+archive="${ROTSPANGLE_LIB:-$here/../crates/exports/out}/libexports.a"
 
 nothing_to_build() {
     echo "compare: not built, $1"
@@ -13,7 +13,7 @@ nothing_to_build() {
 }
 
 sh "$here/../oracle/build.sh"
-[ -f "$archive" ] || nothing_to_build "there is no static library (rt staticlib exports makes it)"
+[ -f "$archive" ] || nothing_to_build "there is no static library (rt lib in crates/exports makes it)"
 
 mkdir -p "$out/package"
 cmp -s "$here/Cargo.toml" "$out/package/Cargo.toml" || cp "$here/Cargo.toml" "$out/package/Cargo.toml"

@@ -5,7 +5,7 @@ set -eu
 
 here=$(cd "$(dirname "$0")" && pwd)
 top="$here/.."
-archive="${ROTSPANGLE_LIB:-$top/target/staticlib}/libexports.a"
+archive="${ROTSPANGLE_LIB:-$top/crates/exports/out}/libexports.a"
 
 if command -v cargo > /dev/null 2>&1 && [ -f "$archive" ]; then
     told=$(cargo test --offline --manifest-path "$top/rust/Cargo.toml" --target-dir "$top/target/rust" 2>&1) || {

@@ -1,12 +1,14 @@
 #!/bin/sh
-# Builds the oracle, runs the case table and a short comparison, and remakes the
-# sample beside the recorded one. Without cargo or the crate's source there is
-# nothing to run: build.sh says so in a line, and that is no failure.
+# Holds the sample to its copy that the program `replay` reads. Then builds the oracle,
+# runs the case table and a short comparison, and remakes the sample beside the recorded
+# one. Without cargo or the crate's source there is nothing more to run: build.sh says
+# so in a line, and that is no failure.
 set -eu
 
 here=$(cd "$(dirname "$0")" && pwd)
 out="$here/../target/oracle"
 
+cmp "$here/sample.txt" "$here/../crates/replay/stdin"
 status=0
 sh "$here/build.sh" || status=$?
 if [ "$status" -eq 3 ]; then exit 0; fi

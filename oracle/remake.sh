@@ -1,6 +1,6 @@
 #!/bin/sh
-# Remakes the recorded sample. The old one is replaced only by a whole new one. It
-# lies where the program `replay` reads it, and sample.txt is a link to it.
+# Remakes the recorded sample. The old one is replaced only by a whole new one. A copy
+# of it lies where the program `replay` reads it.
 set -eu
 
 here=$(cd "$(dirname "$0")" && pwd)
@@ -8,5 +8,6 @@ out="$here/../target/oracle"
 
 sh "$here/build.sh"
 "$out/build/release/oracle" sample > "$out/sample.txt"
-mv "$out/sample.txt" "$here/../crates/replay/stdin"
+cp "$out/sample.txt" "$here/../crates/replay/stdin"
+mv "$out/sample.txt" "$here/sample.txt"
 echo "oracle: sample remade"
