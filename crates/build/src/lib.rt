@@ -1,5 +1,7 @@
 // The tables of a pattern list: `build`, with refusals 1 to 8. All tables are lent and may hold anything. Working tables are zero again
 // after a good build; nothing is changed by 1 to 5, and all is zero after 6 to 8.
+#![tactic(auto)]
+
 ghost use Rattle.std.specs.Prelude.{◌≡◌};
 ghost use Rattle.list.specs.Claims.{Sound};
 ghost use Rattle.build.specs.Lot.{lot_of};
