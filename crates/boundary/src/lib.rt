@@ -1,4 +1,6 @@
 // Inner: how answers cross the boundary to C: as numbers, in variables that the caller lends.
+#![tactic(auto)]
+
 ghost use Rattle.std.specs.Prelude.{◌≡◌};
 ghost use Rattle.search.specs.Values.{number};
 ghost use Rattle.sheet.specs.Sheet.{stop_of};

@@ -1,5 +1,7 @@
 // The interface for C and for Rust: slices in, numbers out. Every table, text and sheet is lent by the caller; a slice crosses as a pointer and a
 // length, a lent variable as a pointer. The functions ask for nothing. `c/rotspangle.h` declares them.
+#![tactic(auto)]
+
 ghost use Rattle.std.specs.Prelude.{◌≡◌, length};
 ghost use Rattle.build.specs.Lot.{lot_of};
 ghost use Rattle.table.specs.Agrees.{lent};
