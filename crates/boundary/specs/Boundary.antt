@@ -1,10 +1,9 @@
 -- How answers cross the boundary: as numbers, and what the caller's variables and tables then hold.
 use Rattle.std.specs.Prelude.{◌≡◌, List, [], ◌∷◌, ℕ, length}
-use Rattle.table.specs.Agrees.{Tables, lent}
 use Rattle.table.specs.declared.Counts.{Counts}
 use Rattle.search.specs.declared.Search.{Search}
-use Rattle.search.specs.Values.{Which, cell, value_of}
-use Rattle.sheet.specs.Sheet.{Stop, full, ended, refused, Load, sheet_of, written}
+use Rattle.search.specs.Values.{cell, value_of}
+use Rattle.sheet.specs.Sheet.{Stop, full, ended, refused, Load, written}
 use Rattle.build.specs.declared.Built.{Built}
 use Rattle.build.specs.Lot.{Lot}
 use Rattle.build.specs.Outcome as build

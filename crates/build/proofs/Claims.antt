@@ -1,8 +1,8 @@
 -- The claims of the promise: when each answer is given, that it is the only one, and that a good build's tables agree.
-use mathlib.Core.Path.{◌≡◌, refl, sym, ap, ◌∙◌, subst}
+use mathlib.Core.Path.{◌≡◌, refl, sym, ap, ◌∙◌}
 use mathlib.Core.Bool.{true, false, ◌||◌}
 use mathlib.Core.List.{List, [], ◌∷◌, ◌++◌}
-use mathlib.Core.Logic.{◌⊎◌, inl, inr, ⊎_elim, ◌↔◌}
+use mathlib.Core.Logic.{◌⊎◌, inl, inr, ◌↔◌}
 use mathlib.Core.Option.{Option, none, some, none-ne-some}
 use Prim.Native.Nat.{ℕ, ◌≤◌, ◌<◌}
 use native.Mathlib.Omega.{arith}
@@ -13,7 +13,7 @@ use Rattle.paper.specs.Patterns.{Entry}
 use Rattle.paper.proofs.Tests.{test, ltb_lt, ltb_le, or_not_left, or_not_right}
 use Rattle.list.specs.Limits.{most_cells}
 use Rattle.list.specs.Kinds.{kind_of}
-use Rattle.list.specs.Refusals.{Refusal, Told, tells, lowest, any_holds, entry, without, distinct, Exactly}
+use Rattle.list.specs.Refusals.{Refusal, Told, tells, lowest, any_holds, entry, without, distinct}
 use Rattle.list.specs.Listed.{refusals}
 use Rattle.list.specs.Claims.{Bytes, Sound}
 use Rattle.list.specs.declared.Listing.TheVariants.{Fine}

@@ -1,10 +1,10 @@
 -- What each phase hands to the next.
 use mathlib.Core.Path.{◌≡◌, refl, ap, ◌∙◌, subst}
-use mathlib.Core.List.{List, [], ◌++◌}
+use mathlib.Core.List.{List, ◌++◌}
 use mathlib.Core.Logic.{inl, inr}
-use Prim.Native.Nat.{ℕ, zero, suc, ◌+◌, ◌*◌, ◌-◌, ◌≤◌, ◌<◌}
+use Prim.Native.Nat.{ℕ, zero, suc, ◌*◌, ◌-◌, ◌≤◌, ◌<◌}
 use native.Mathlib.Omega.{arith}
-use lib.ListN.{length, replicate, drop, length-replicate}
+use lib.ListN.{length, replicate, drop}
 use Rattle.zeros.specs.Rows.{zeros, field}
 use Rattle.paper.specs.Patterns.{Entry, Kind}
 use Rattle.paper.specs.Automaton.{machine, is_state, link}
@@ -21,13 +21,13 @@ use Rattle.plan.specs.Placement.{Layout}
 use Rattle.trie.specs.declared.Grew.{Grew}
 use Rattle.trie.specs.declared.Grew.TheVariants.{On}
 use Rattle.trie.specs.declared.Grew.TheVariants as grew
-use Rattle.outputs.specs.Placed.{all_stored, Tabled, Placed}
+use Rattle.outputs.specs.Placed.{all_stored, Placed}
 use Rattle.outputs.proofs.Noting.{still_linked}
 use Rattle.nfa.specs.Grown.{accepted_of, Grown, GrownOk}
 use Rattle.nfa.proofs.Accepted.{within, valued, few, fit}
-use Rattle.groups.specs.Ordered.{groups_of, Groupable, Grouped}
+use Rattle.groups.specs.Ordered.{groups_of, Grouped}
 use Rattle.spots.proofs.Charting.{bytes}
-use Rattle.placement.specs.Laid.{first_block, Laid, Placeable, LaidOut, PlacedAll}
+use Rattle.placement.specs.Laid.{first_block, Laid, Placeable, PlacedAll}
 use Rattle.placement.specs.declared.Blocks.{Blocks}
 use Rattle.placement.specs.declared.Blocks.TheVariants.{Now, Full}
 use Rattle.cells.specs.Columns.{Writable, Written}

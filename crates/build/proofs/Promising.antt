@@ -1,10 +1,9 @@
 -- The promise from what the phases answered and what the wipes left.
-use mathlib.Core.Path.{◌≡◌, refl, sym, ap, ◌∙◌, subst}
+use mathlib.Core.Path.{◌≡◌, sym, ap, ◌∙◌, subst}
 use mathlib.Core.List.{List}
 use mathlib.Core.Logic.{⊎_elim}
 use mathlib.Core.Option.{some}
 use Prim.Native.Nat.{ℕ, ◌*◌, ◌-◌, ◌≤◌}
-use native.Mathlib.Omega.{arith}
 use lib.Dec.{leb}
 use lib.ListN.{length, replicate, length-replicate}
 use Rattle.zeros.specs.Rows.{zeros}
@@ -22,13 +21,12 @@ use Rattle.nfa.specs.Grown.{accepted_of}
 use Rattle.whole.specs.Whole.{state_count}
 use Rattle.whole.specs.Refusing.{Lent, Suffices}
 use Rattle.build.specs.Lot.{Lot, lot_of, slots_of}
-use Rattle.build.specs.Outcome.{TableRefusal, Outcome, refused, made, refusal, answer, counts_of, outcome_of}
+use Rattle.build.specs.Outcome.{TableRefusal, refused, made, refusal, answer, counts_of}
 use Rattle.wipe.specs.Wiped.{blank, blank_rows, WorkingZero, ResultsZero}
 use Rattle.build.specs.Phases.{Filled, AllDone, Caused, PhasesOk}
 use Rattle.build.specs.Promise.{Promise}
 use Rattle.build.specs.declared.phases.Progress.{Progress}
 use Rattle.build.specs.declared.phases.Progress.TheVariants.{Done, Refused}
-use Rattle.table.specs.declared.Counts.{Counts}
 use Rattle.build.specs.declared.Built.{Built}
 use Rattle.build.specs.declared.Built.TheVariants.{Made}
 use Rattle.build.proofs.Outcomes.{outcome_listed, outcome_made, outcome_caused}

@@ -4,7 +4,6 @@ use Rattle.zeros.specs.Rows.{zeros}
 use Rattle.paper.specs.Lists.{pick}
 use Rattle.paper.specs.Patterns.{Entry, Kind}
 use Rattle.list.specs.Kinds.{kind_of}
-use Rattle.plan.specs.Cells.{Cell}
 use Rattle.cells.specs.Columns.{column}
 use Rattle.nfa.specs.Grown.{accepted_of}
 use Rattle.whole.specs.Whole.{cells_of, outputs_of}

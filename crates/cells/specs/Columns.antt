@@ -6,7 +6,7 @@ use Rattle.paper.specs.Automaton.{is_state, Link, to}
 use Rattle.list.specs.Limits.{alphabet, block, most_cells}
 use Rattle.plan.specs.Names.{names}
 use Rattle.plan.specs.Placement.{Layout}
-use Rattle.plan.specs.Cells.{Cell, Full, cells}
+use Rattle.plan.specs.Cells.{Cell, Full}
 use Rattle.trie.specs.Stands.{Stands}
 use Rattle.links.specs.Linked.{Leads}
 use Rattle.placement.specs.Laid.{Laid}

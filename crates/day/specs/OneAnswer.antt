@@ -4,10 +4,6 @@ use Rattle.std.specs.Prelude.{◌≡◌, List, ℕ, length}
 use Rattle.table.specs.Slots.{column_slots}
 use Rattle.table.specs.Readers.{probe_of, link_of, place_of, output_of}
 use Rattle.table.specs.Agrees.{Tables}
-use Rattle.table.specs.declared.Found.{Found}
-use Rattle.table.specs.declared.Linked.{Linked}
-use Rattle.table.specs.declared.Begins.{Begins}
-use Rattle.table.specs.declared.Shown.{Shown}
 use Rattle.build.specs.Lot.{Lot}
 use Rattle.build.specs.Promise.{Promise}
 use Rattle.build.specs.declared.Built.{Built}

@@ -1,6 +1,6 @@
 -- Numbers and strings: what the names, the states and the trie's children say of each other.
 use mathlib.Core.Path.{◌≡◌, sym, ap, ◌∙◌, subst}
-use mathlib.Core.Bool.{true, false}
+use mathlib.Core.Bool.{true}
 use mathlib.Core.List.{List, [], ◌∷◌}
 use Prim.Native.Nat.{ℕ, ◌<◌}
 use native.Mathlib.Omega.{arith}
@@ -9,9 +9,9 @@ use Rattle.paper.specs.Lists.{same, snoc}
 use Rattle.paper.specs.Patterns.{Entry}
 use Rattle.paper.specs.Automaton.{is_state}
 use Rattle.paper.proofs.Tests.{not_true→false}
-use Rattle.paper.proofs.Strings.{same_eq, snoc_byte}
+use Rattle.paper.proofs.Strings.{same_eq}
 use Rattle.list.specs.Limits.{alphabet, most_bytes}
-use Rattle.plan.specs.Names.{has, names, Distinct}
+use Rattle.plan.specs.Names.{names, Distinct}
 use Rattle.plan.specs.Breadth.{Bounded}
 use Rattle.plan.proofs.Names.{index, has_at, has_names}
 use Rattle.trie.specs.Trie.{Slots, Kid, Trie}

@@ -9,7 +9,7 @@ use native.Mathlib.Omega.{arith}
 use lib.ListN.{length, take}
 use Rattle.paper.specs.Patterns.{Entry, standard}
 use Rattle.paper.specs.Matches.{Occurrence, with_payloads, overlapping}
-use Rattle.paper.specs.Automaton.{Machine, machine, output, end_at, Walk, fresh, step, walk, never, says_all}
+use Rattle.paper.specs.Automaton.{Machine, machine, output, end_at, Walk, fresh, step, says_all}
 use Rattle.paper.proofs.Standard.{says_overlapping}
 use Rattle.list.specs.Limits.{most_text}
 use Rattle.list.specs.Claims.{Bytes}

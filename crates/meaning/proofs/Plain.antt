@@ -10,7 +10,7 @@ use lib.ListN.{length, take}
 use Rattle.paper.specs.Lists.{is_nil}
 use Rattle.paper.specs.Patterns.{Entry, standard}
 use Rattle.paper.specs.Matches.{Occurrence, with_payloads, plain}
-use Rattle.paper.specs.Automaton.{Machine, machine, output, end_at, Walk, fresh, step, walk, putting_out, on_first, says_plain}
+use Rattle.paper.specs.Automaton.{Machine, machine, output, end_at, Walk, fresh, step, on_first, says_plain}
 use Rattle.paper.proofs.Plain.{says_plain_lem}
 use Rattle.list.specs.Limits.{most_text}
 use Rattle.list.specs.Claims.{Bytes}

@@ -1,5 +1,5 @@
 -- What the accepted patterns of a sound list have, as the tables ask it.
-use mathlib.Core.Path.{◌≡◌, refl, sym, ap, ◌∙◌, subst}
+use mathlib.Core.Path.{◌≡◌, refl, ap, subst}
 use mathlib.Core.Bool.{Bool, true, false, ◌&&◌}
 use mathlib.Core.List.Memᴰ
 use mathlib.Core.List.{List, [], ◌∷◌, Memᴰ}
@@ -7,10 +7,9 @@ use mathlib.Core.Logic.{⊎_elim}
 use Prim.Native.Nat.{ℕ, zero, suc, ◌+◌, ◌*◌, ◌≤◌, ◌<◌}
 use native.Mathlib.Decide.{dec_lt}
 use native.Mathlib.Omega.{arith}
-use lib.Dec.{ltb}
 use lib.ListN.{length, length-append}
-use Rattle.paper.specs.Patterns.{Entry, Kind, rows, rows_from, accepted, barred, Proper}
-use Rattle.paper.proofs.Tests.{test, lt_ltb, ltb_lt, ltb_le, le_ltb}
+use Rattle.paper.specs.Patterns.{Entry, Kind, rows, rows_from, barred, Proper}
+use Rattle.paper.proofs.Tests.{test}
 use Rattle.paper.proofs.Acceptance.{rows_from_lem, accepted_listed, proper}
 use Rattle.list.specs.Limits.{alphabet, most_listed, most_bytes}
 use Rattle.list.specs.Kinds.{kind_of}

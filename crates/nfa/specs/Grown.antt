@@ -1,5 +1,5 @@
 -- The trie of a lent list with its links: what the tables hold, and when there is none.
-use Rattle.std.specs.Prelude.{◌≡◌, List, ℕ, ◌≤◌, ◌<◌, length}
+use Rattle.std.specs.Prelude.{List, ℕ, ◌≤◌, ◌<◌, length}
 use Rattle.paper.specs.Patterns.{Entry, accepted}
 use Rattle.list.specs.Limits.{alphabet, smaller}
 use Rattle.list.specs.Kinds.{kind_of}

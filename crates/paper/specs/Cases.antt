@@ -3,9 +3,9 @@
 use Rattle.std.specs.Prelude.{◌≡◌, List, [], ◌∷◌, map, ℕ, length, get_or}
 use Prim.Native.Char.{code}
 use Prim.Native.String.{String, [] as end, ◌∷◌ as ◌then◌}
-use Rattle.paper.specs.Patterns.{Entry, Kind, standard, leftmost, longest, first, rows, accepted}
+use Rattle.paper.specs.Patterns.{standard, leftmost, longest, first, rows, accepted}
 use Rattle.paper.specs.Matches.{Match, with_payloads, overlapping, plain, leftmost_by}
-use Rattle.paper.specs.Automaton.{Machine, machine, is_state, failure, output, Walk, fresh, walk, never, putting_out}
+use Rattle.paper.specs.Automaton.{Machine, machine, is_state, failure, output, fresh, walk, never}
 
 -- the bytes of a text
 abbrev pub bytes : String → List ℕ

@@ -1,7 +1,7 @@
 -- What is proved of the definitions: each claim with its English above it. The proofs stand in ../proofs; `claims` there has them all.
 use Rattle.std.specs.Prelude.{◌≡◌, Bool, true, false, ◌↔◌, ℕ, suc, ◌*◌, ◌-◌, ◌≤◌, ◌<◌, length, take, drop}
 use mathlib.Core.List.{List, map, Memᴰ}
-use Rattle.paper.specs.Patterns.{Entry, Choice, Kind, standard, leftmost, longest, first, rows, accepted, proper_prefix, Filled, Proper}
+use Rattle.paper.specs.Patterns.{Entry, Choice, Kind, standard, leftmost, first, rows, accepted, proper_prefix, Filled, Proper}
 use Rattle.paper.specs.Matches.{Occurrence, Overlapping, Chosen, ByEnd, Leftmost, ending_at, overlapping, plain, leftmost_by}
 use Rattle.paper.specs.Automaton.{machine, is_state, longest_state, Link, link, Rules, output, end_at, fresh, walk, never, says_all, says_plain, says_leftmost}
 

@@ -1,31 +1,30 @@
 -- One group: the range that is looked over, the seat that is found, and the layout with the group.
-use mathlib.Core.Path.{◌≡◌, refl, sym, ap, ◌∙◌, subst}
+use mathlib.Core.Path.{◌≡◌, refl, sym, ◌∙◌, subst}
 use mathlib.Core.Bool.{Bool, true, false}
-use mathlib.Core.List.{List, [], ◌∷◌, Memᴰ}
+use mathlib.Core.List.{List, [], Memᴰ}
 use mathlib.Core.Option.{none, some, none-ne-some}
-use Prim.Native.Nat.{ℕ, suc, ◌+◌, ◌-◌, ◌*◌, ◌≤◌, ◌<◌}
+use Prim.Native.Nat.{ℕ, ◌+◌, ◌-◌, ◌*◌, ◌≤◌, ◌<◌}
 use native.Mathlib.Omega.{arith}
 use lib.Bits.{bit_xor}
 use lib.ListN.{length, get_or}
 use Rattle.paper.specs.Patterns.{Entry}
 use Rattle.paper.specs.Automaton.{is_state}
-use Rattle.list.specs.Limits.{alphabet, block, most_cells, window_blocks}
+use Rattle.list.specs.Limits.{alphabet, block, window_blocks}
 use Rattle.plan.specs.Names.{names}
-use Rattle.plan.specs.Breadth.{kid_bytes}
-use Rattle.plan.specs.Groups.{Group, bytes_of}
-use Rattle.plan.specs.Placement.{Layout, first_fit, look, put, grown, place, Good, Lettered, serves}
+use Rattle.plan.specs.Groups.{Group}
+use Rattle.plan.specs.Placement.{Layout, first_fit, look, grown, place, Lettered, serves}
 use Rattle.plan.proofs.Breadth.{in_kid_bytes}
 use Rattle.plan.proofs.Xor.{xor_below}
 use Rattle.plan.proofs.Scans.{first_some}
 use Rattle.plan.proofs.Layouts.{grown_good}
 use Rattle.plan.proofs.Placement.{place_here, place_more, place_full, look_grown, window_reaches}
 use Rattle.trie.specs.Stands.{Stands}
-use Rattle.spots.specs.Charted.{with_used, with_seated, Charted, Seek, GroupAt, FoundBase}
+use Rattle.spots.specs.Charted.{Charted, Seek, GroupAt, FoundBase}
 use Rattle.spots.specs.declared.Base.{Base}
 use Rattle.spots.specs.declared.Base.TheVariants.{At, Nothing}
 use Rattle.spots.proofs.Charting.{bytes, charted_grown, charted_put, vacant_past}
 use Rattle.placement.specs.Laid.{first_block}
-use Rattle.placement.specs.Seats.{State, Seat, Children, SeatedAt, Look, PlacedAt, Looked, Turn, Turned, TurnedOk}
+use Rattle.placement.specs.Seats.{Seat, Children, SeatedAt, Look, PlacedAt, Looked, Turn, Turned}
 
 -- a look is the first fit over the range
 pub look_range : (l : Layout) (g : Group) (blocks : ℕ) → blocks ≡ l.blocks

@@ -1,10 +1,10 @@
 -- All groups in turn: after i of them the tables are those of the layout of the first i.
 use mathlib.Core.Path.{◌≡◌, refl, sym, ap, ◌∙◌, subst}
 use mathlib.Core.List.Memᴰ
-use mathlib.Core.List.{List, [], ◌∷◌, ◌++◌, map, Memᴰ}
+use mathlib.Core.List.{List, [], ◌∷◌, Memᴰ}
 use mathlib.Core.List.{cons≢nil}
 use mathlib.Core.Logic.{⊎_elim}
-use Prim.Native.Nat.{ℕ, zero, suc, ◌+◌, ◌*◌, ◌≤◌, ◌<◌}
+use Prim.Native.Nat.{ℕ, suc, ◌≤◌, ◌<◌}
 use native.Mathlib.Omega.{arith}
 use lib.Bits.{bit_xor}
 use lib.ListN.{length, get_or, take, drop, take-append-drop, length-set}
@@ -16,20 +16,18 @@ use Rattle.paper.specs.Automaton.{is_state}
 use Rattle.paper.proofs.Strings.{snoc_parent}
 use Rattle.list.specs.Limits.{alphabet, block, window_blocks}
 use Rattle.plan.specs.Names.{names}
-use Rattle.plan.specs.Breadth.{kid_bytes}
-use Rattle.plan.specs.Groups.{Group, bytes_of, OtherParent}
-use Rattle.plan.specs.Placement.{Placed, Layout, one_block, placed_by, put, place, place_tasks, place_all, Good, Lettered}
-use Rattle.plan.proofs.Lists.{get_member, sorted_take}
+use Rattle.plan.specs.Groups.{Group, OtherParent}
+use Rattle.plan.specs.Placement.{Placed, Layout, one_block, placed_by, put, place, place_tasks, Good, Lettered}
+use Rattle.plan.proofs.Lists.{sorted_take}
 use Rattle.plan.proofs.Breadth.{in_kid_bytes}
 use Rattle.plan.proofs.Layouts.{begun_good}
 use Rattle.plan.proofs.Placement.{all_append, all_prefix, all_good, all_groups, window_reaches}
 use Rattle.trie.specs.Trie.{Kid}
-use Rattle.trie.specs.Stands.{Stands}
 use Rattle.trie.proofs.Walks.{walk_begin, walk_end}
 use Rattle.groups.specs.Ordered.{no_group}
 use Rattle.spots.specs.Charted.{with_taken, GroupAt}
 use Rattle.spots.proofs.Charting.{bytes, charted_begun}
-use Rattle.placement.specs.Laid.{with_cell, first_block, laid_out, Seated, Laid, Placeable, LaidOut}
+use Rattle.placement.specs.Laid.{with_cell, first_block, laid_out, Laid, Placeable, LaidOut}
 use Rattle.placement.specs.Seats.{Turn, Turned, TurnedOk}
 use Rattle.placement.specs.declared.Blocks.{Blocks}
 use Rattle.placement.specs.declared.Blocks.TheVariants.{Now, Full}

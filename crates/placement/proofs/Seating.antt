@@ -1,12 +1,12 @@
 -- The children of a state get their cells, one after the other along the walk.
 use mathlib.Core.Path.{◌≡◌, refl, sym, ap, ◌∙◌, subst}
 use mathlib.Core.Bool.{true, false}
-use mathlib.Core.List.{List, [], ◌∷◌}
-use Prim.Native.Nat.{ℕ, zero, suc, ◌≤◌, ◌<◌}
+use mathlib.Core.List.{List, []}
+use Prim.Native.Nat.{ℕ, zero, suc, ◌<◌}
 use native.Mathlib.Omega.{arith}
 use native.Mathlib.Decide.{ℕ_discrete, dec_lt}
 use lib.Bits.{bit_xor}
-use lib.ListN.{length, get_or, length-set}
+use lib.ListN.{length, get_or}
 use Rattle.zeros.specs.Rows.{field}
 use Rattle.zeros.proofs.Rows.{field_set_same, field_set_other}
 use Rattle.paper.specs.Lists.{snoc}
@@ -23,9 +23,9 @@ use Rattle.trie.specs.Stands.{Stands}
 use Rattle.trie.proofs.Inserting.{kept_field}
 use Rattle.trie.proofs.Seeking.{least_label}
 use Rattle.trie.proofs.Walks.{Walk, walk_begin, begin_low, walk_end, walk_kid, rest, walk_first, walk_next, next_low}
-use Rattle.spots.specs.Charted.{with_taken, with_used, with_seated}
+use Rattle.spots.specs.Charted.{with_taken, with_seated}
 use Rattle.placement.specs.Laid.{with_cell}
-use Rattle.placement.specs.Seats.{Children, SeatedAt}
+use Rattle.placement.specs.Seats.{Children}
 
 module _ (notes : List (List ℕ)) (t v : ℕ) (h : t < length notes) where
   pub cell_here : field (with_cell notes t v) t 5 ≡ v

@@ -21,7 +21,7 @@ use Rattle.search.specs.declared.walk.Moved.{Moved}
 use Rattle.search.specs.declared.walk.Moved.TheVariants as moved
 use Rattle.search.specs.Values.{root, cell, value_of}
 use Rattle.search.specs.Bounds.{most_added}
-use Rattle.search.specs.Walk.{falls_at, byte_taken, take_of, take_in, begins_in, step_of}
+use Rattle.search.specs.Walk.{falls_at, take_of, take_in, begins_in, step_of}
 use Rattle.search.proofs.Walking.{at_child, at_damage, at_root_lem, at_broken, at_dead, at_link}
 
 -- ---- the ways of a step, with the answers r and b of the byte's walk and of the place of outputs

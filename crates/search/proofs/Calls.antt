@@ -2,14 +2,14 @@
 use mathlib.Core.Path.{◌≡◌, refl, sym, ap, ◌∙◌, subst}
 use mathlib.Core.Bool.{Bool, true, false, ◌||◌}
 use mathlib.Core.List.{List, [], ◌∷◌}
-use mathlib.Core.Option.{Option, none, some}
-use Prim.Native.Nat.{ℕ, suc, ◌+◌, ◌*◌, ◌≤◌, ◌<◌}
+use mathlib.Core.Option.{none, some}
+use Prim.Native.Nat.{ℕ, ◌+◌, ◌*◌, ◌≤◌}
 use native.Mathlib.Omega.{arith}
 use lib.Dec.{leb, ltb}
 use lib.ListN.{length, length-drop}
 use Rattle.paper.proofs.Tests.{test, or_not_left, or_not_right, ltb_le}
 use Rattle.list.specs.Limits.{last_kind, most_text}
-use Rattle.list.specs.Refusals.{Told, lowest}
+use Rattle.list.specs.Refusals.{lowest}
 use Rattle.table.specs.Agrees.{Tables}
 use Rattle.table.specs.declared.Row.{Row}
 use Rattle.table.specs.declared.Shown.{Shown}
@@ -25,7 +25,7 @@ use Rattle.search.specs.declared.seek.Sought.{Sought}
 use Rattle.search.specs.declared.seek.Sought.TheVariants as sought
 use Rattle.search.specs.declared.keep.Kept.{Kept}
 use Rattle.search.specs.declared.keep.Kept.TheVariants as kept
-use Rattle.search.specs.Values.{Which, overlapping, plain, leftmost, match_of, Outcome, gives, ends, refuses, number}
+use Rattle.search.specs.Values.{Which, overlapping, plain, leftmost, match_of, gives, ends, refuses, number}
 use Rattle.search.specs.Bounds.{most_at}
 use Rattle.search.specs.Walk.{step_of}
 use Rattle.search.specs.Admission.{other_kind, counts_broken, value_broken, at_first, told}

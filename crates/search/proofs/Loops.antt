@@ -1,11 +1,10 @@
 -- What the loops of `seek` and `keep` keep: what is left of the walk is the whole walk, and the value stays within its bounds.
 use mathlib.Core.Path.{◌≡◌, refl, sym, ap, ◌∙◌, subst}
-use mathlib.Core.Bool.{Bool, true, false}
+use mathlib.Core.Bool.{Bool, true}
 use mathlib.Core.List.{List, [], ◌∷◌}
-use Prim.Native.Nat.{ℕ, suc, ◌+◌, ◌*◌, ◌-◌, ◌≤◌, ◌<◌}
+use Prim.Native.Nat.{ℕ, suc, ◌+◌, ◌-◌, ◌≤◌, ◌<◌}
 use native.Mathlib.Numerals.{add-one}
 use native.Mathlib.Omega.{arith}
-use lib.Dec.{eqb}
 use lib.ListN.{length, drop, get_or, drop_of_length-le}
 use lib.Seq.{drop-cons}
 use Rattle.paper.proofs.Tests.{eq_eqb, ne_eqb}
@@ -17,9 +16,7 @@ use Rattle.table.specs.declared.Shown.TheVariants as shown
 use Rattle.search.specs.declared.Search.{Search}
 use Rattle.search.specs.declared.Match.{Match}
 use Rattle.search.specs.declared.walk.Moved.TheVariants as moved
-use Rattle.search.specs.declared.seek.Sought.{Sought}
 use Rattle.search.specs.declared.seek.Sought.TheVariants as sought
-use Rattle.search.specs.declared.keep.Kept.{Kept}
 use Rattle.search.specs.declared.keep.Kept.TheVariants as kept
 use Rattle.search.specs.Values.{root, match_of}
 use Rattle.search.specs.Bounds.{most_added, most_at, most_before}

@@ -1,11 +1,9 @@
 -- The walk on a byte against its definition: one equation for each way of the code, and what the loop keeps.
-use mathlib.Core.Path.{◌≡◌, refl, sym, ap, ◌∙◌}
-use mathlib.Core.Bool.{Bool, true, false, ◌&&◌}
+use mathlib.Core.Path.{◌≡◌, refl, sym, ◌∙◌}
+use mathlib.Core.Bool.{Bool, true, false}
 use mathlib.Core.List.{List}
-use mathlib.Core.Logic.{◌↔◌}
 use Prim.Native.Nat.{ℕ, zero, suc, ◌+◌, ◌≤◌, ◌<◌}
 use native.Mathlib.Omega.{arith}
-use lib.Dec.{eqb}
 use lib.ListN.{get_or}
 use Rattle.paper.proofs.Tests.{eq_eqb, ne_eqb}
 use Rattle.table.specs.Readers.{link_of}
@@ -15,9 +13,8 @@ use Rattle.table.specs.declared.Found.{Found}
 use Rattle.table.specs.declared.Found.TheVariants as found
 use Rattle.table.specs.declared.Linked.{Linked}
 use Rattle.table.specs.declared.Linked.TheVariants as linked
-use Rattle.search.specs.declared.walk.Taken.{Taken}
 use Rattle.search.specs.declared.walk.Taken.TheVariants as taken
-use Rattle.search.specs.Values.{root, dead, cell}
+use Rattle.search.specs.Values.{root, cell}
 use Rattle.search.specs.Walk.{byte_taken, falls_at, take_of}
 
 -- a link leads to a smaller depth

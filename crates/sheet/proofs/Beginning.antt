@@ -1,10 +1,9 @@
 -- The whole call: an empty sheet is told 9 and 10 alone, any other is loaded.
 use mathlib.Core.Path.{◌≡◌, refl, sym, ap, ◌∙◌, subst}
 use mathlib.Core.Bool.{Bool, true, false}
-use mathlib.Core.List.{List, [], ◌∷◌}
+use mathlib.Core.List.{List}
 use Prim.Native.Nat.{ℕ, zero, suc, ◌≤◌, ◌<◌}
 use native.Mathlib.Omega.{arith}
-use lib.Dec.{ltb}
 use lib.ListN.{length}
 use Rattle.paper.proofs.Tests.{lt_ltb, le_ltb}
 use Rattle.list.specs.Limits.{most_text}

@@ -1,23 +1,20 @@
 -- The claims of a sheet, by the answers in turn.
 use mathlib.Core.Path.{◌≡◌, refl, sym, ap, ◌∙◌}
 use mathlib.Core.Bool.{Bool, true, false}
-use mathlib.Core.List.{List, [], ◌∷◌, ◌++◌}
+use mathlib.Core.List.{List, [], ◌∷◌}
 use mathlib.Core.Logic.{◌⊎◌, ⊎_map}
 use mathlib.Core.Option.{Option, none, some}
-use Prim.Native.Nat.{ℕ, zero, suc, ◌+◌, ◌≤◌, ◌<◌}
-use native.Mathlib.Nat.{not-suc-le-zero}
+use Prim.Native.Nat.{ℕ, zero, suc, ◌+◌, ◌≤◌}
 use native.Mathlib.Omega.{arith}
-use lib.Dec.{eqb, ltb}
+use lib.Dec.{eqb}
 use lib.ListN.{length}
 use Rattle.paper.specs.Lists.{pick}
-use Rattle.list.specs.Limits.{most_text}
-use Rattle.list.specs.Refusals.{Told, Refusal, plainly, tells, lowest}
+use Rattle.list.specs.Refusals.{Told, plainly, lowest}
 use Rattle.table.specs.Agrees.{Tables}
 use Rattle.search.specs.declared.Search.{Search}
 use Rattle.search.specs.declared.Match.{Match}
 use Rattle.search.specs.declared.Refusal.TheVariants as refusal
 use Rattle.search.specs.Values.{Which, Outcome, gives, ends, refuses}
-use Rattle.search.specs.Admission.{other_kind, at_first}
 use Rattle.search.specs.Searches.{next_of, unless, walk_of, is_leftmost}
 use Rattle.search.proofs.Claims as search
 use Rattle.sheet.specs.declared.Stop as declared

@@ -4,14 +4,14 @@ use mathlib.Core.Bool.{true, false, not}
 use mathlib.Core.List.Memᴰ
 use mathlib.Core.List.{List, [], ◌∷◌, Memᴰ}
 use mathlib.Core.Logic.{⊎_elim}
-use Prim.Native.Nat.{ℕ, suc, ◌+◌, ◌-◌, ◌<◌}
+use Prim.Native.Nat.{ℕ, suc, ◌+◌, ◌<◌}
 use native.Mathlib.Decide.{dec_lt}
 use native.Mathlib.Numerals.{add-one}
 use native.Mathlib.Omega.{arith}
 use lib.Dec.{ltb}
 use lib.ListN.{length, get_or, take, drop, take-append-drop}
 use lib.Seq.{take-suc, length-take-le}
-use Rattle.paper.specs.Lists.{same, prefix, snoc, is_nil}
+use Rattle.paper.specs.Lists.{prefix, snoc, is_nil}
 use Rattle.paper.specs.Patterns.{Entry, barred, proper_prefix}
 use Rattle.paper.specs.Automaton.{is_state, own_of}
 use Rattle.paper.proofs.Tests.{clash, not_true→false, or_left, or_right, and_left, and_right, and_both, lt_ltb, ltb_lt, ne_eqb}

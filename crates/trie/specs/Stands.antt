@@ -1,5 +1,5 @@
 -- The rows of a whole trie, for the callers that walk over it.
-use Rattle.std.specs.Prelude.{◌≡◌, List, ℕ, ◌≤◌, length}
+use Rattle.std.specs.Prelude.{List, ℕ, ◌≤◌, length}
 use Rattle.paper.specs.Patterns.{Entry}
 use Rattle.list.specs.Limits.{alphabet, most_bytes}
 use Rattle.plan.specs.Names.{names}

@@ -1,6 +1,6 @@
 -- `write_spare` goes along the cells of a block.
 use mathlib.Core.Path.{◌≡◌, refl, sym, ap, ◌∙◌}
-use Prim.Native.Nat.{◌+◌, ◌-◌}
+use Prim.Native.Nat.{◌+◌}
 use native.Mathlib.Numerals.{add-one}
 use native.Mathlib.Omega.{arith}
 use lib.ListN.{length, length-set}
@@ -27,17 +27,17 @@ loop-j-preserved c =
     rw (add-one l.j)
     (elim c.if-is_spare.branch [
       | then-is_spare w ↦ (
-          omega arith,
-          omega arith,
-          ap length w.check-is ∙ length-set l.check l.j _ ∙ l.invariant.2,
-          rw w.check-is (spared_more l.invariant.3 l.invariant.0 (omega (arith, c.requires.0.in_check, l.invariant.2)) (sym c.is_spare.ensures ∙ w.if-is_spare.true)),
-        )
+        omega arith,
+        omega arith,
+        ap length w.check-is ∙ length-set l.check l.j _ ∙ l.invariant.2,
+        rw w.check-is (spared_more l.invariant.3 l.invariant.0 (omega (arith, c.requires.0.in_check, l.invariant.2)) (sym c.is_spare.ensures ∙ w.if-is_spare.true)),
+      )
       | else-is_spare w ↦ (
-          omega arith,
-          omega arith,
-          ap length w.check-is ∙ l.invariant.2,
-          rw w.check-is (spared_past l.invariant.3 (sym c.is_spare.ensures ∙ w.if-is_spare.false)),
-        )
+        omega arith,
+        omega arith,
+        ap length w.check-is ∙ l.invariant.2,
+        rw w.check-is (spared_past l.invariant.3 (sym c.is_spare.ensures ∙ w.if-is_spare.false)),
+      )
     ])
 
 pub returns : goal.returns

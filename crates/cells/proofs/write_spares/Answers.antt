@@ -1,7 +1,7 @@
 -- `write_spares` goes along the blocks.
 use mathlib.Core.Path.{◌≡◌, refl, ap, ◌∙◌}
 use mathlib.Core.Option.{some}
-use Prim.Native.Nat.{◌*◌, ◌-◌}
+use Prim.Native.Nat.{◌*◌}
 use native.Mathlib.Numerals.{add-one}
 use native.Mathlib.Omega.{arith}
 use lib.ListN.{length}
@@ -46,15 +46,15 @@ loop-k-preserved c =
     rw (add-one l.k)
     (elim c.match-unused_base.branch [
       | in-At w ↦ (
-          omega (arith, c.loop-k-test.true),
-          ap length w.check-is ∙ w.write_spare.auto.check ∙ l.invariant.1,
-          rw w.check-is (blocks_more l.invariant.2 w.in-At.unused (found_some _ _ _ said _ w.in-At.is) w.write_spare.ensures),
-        )
+        omega (arith, c.loop-k-test.true),
+        ap length w.check-is ∙ w.write_spare.auto.check ∙ l.invariant.1,
+        rw w.check-is (blocks_more l.invariant.2 w.in-At.unused (found_some _ _ _ said _ w.in-At.is) w.write_spare.ensures),
+      )
       | in_default w ↦ (
-          omega (arith, c.loop-k-test.true),
-          ap length w.check-is ∙ l.invariant.1,
-          rw w.check-is (blocks_past l.invariant.2 (found_none _ _ _ said w.in_default.is)),
-        )
+        omega (arith, c.loop-k-test.true),
+        ap length w.check-is ∙ l.invariant.1,
+        rw w.check-is (blocks_past l.invariant.2 (found_none _ _ _ said w.in_default.is)),
+      )
     ])
 
 pub returns : goal.returns

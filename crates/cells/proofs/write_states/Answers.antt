@@ -1,6 +1,5 @@
 -- `write_states` writes the cell of each state but dead.
 use mathlib.Core.Path.{◌≡◌}
-use Prim.Native.Nat.{◌-◌}
 use native.Mathlib.Numerals.{add-one}
 use native.Mathlib.Omega.{arith}
 use Rattle.cells.proofs.Seating.{states_none, states_same, still_inside, states_dead, states_more}
@@ -21,13 +20,13 @@ loop-k-preserved c =
     rw (add-one c.loop-k.k)
     (elim c.if-k-ne1.branch [
       | then-k-ne1 w ↦ (
-          omega (arith, c.loop-k-test.true),
-          rw (w.base-is, w.link-is, w.output-is, w.check-is, w.depth-is) (states_more c.loop-k.invariant.1 w.if-k-ne1.true w.write_state.ensures),
-        )
+        omega (arith, c.loop-k-test.true),
+        rw (w.base-is, w.link-is, w.output-is, w.check-is, w.depth-is) (states_more c.loop-k.invariant.1 w.if-k-ne1.true w.write_state.ensures),
+      )
       | else-k-ne1 w ↦ (
-          omega (arith, c.loop-k-test.true),
-          rw (w.base-is, w.link-is, w.output-is, w.check-is, w.depth-is) (states_dead c.loop-k.invariant.1 w.if-k-ne1.false),
-        )
+        omega (arith, c.loop-k-test.true),
+        rw (w.base-is, w.link-is, w.output-is, w.check-is, w.depth-is) (states_dead c.loop-k.invariant.1 w.if-k-ne1.false),
+      )
     ])
 
 pub shape_of-base : goal.shape_of-base

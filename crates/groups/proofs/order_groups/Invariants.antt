@@ -1,7 +1,7 @@
 -- `order_groups` pops a state, notes its group and pushes its children, until the stack is empty.
 use mathlib.Core.Path.{◌≡◌}
 use mathlib.Core.List.{List}
-use Prim.Native.Nat.{ℕ, ◌-◌}
+use Prim.Native.Nat.{ℕ}
 use lib.ListN.{length}
 use Rattle.zeros.specs.Rows.{field}
 use Rattle.paper.specs.Patterns.{Entry}

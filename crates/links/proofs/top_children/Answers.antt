@@ -1,7 +1,7 @@
 -- `top_children` walks along root's children.
 use mathlib.Core.Path.{◌≡◌, subst}
 use mathlib.Core.List.{List, []}
-use Prim.Native.Nat.{ℕ, ◌<◌, ◌-◌}
+use Prim.Native.Nat.{ℕ, ◌<◌}
 use native.Mathlib.Omega.{arith}
 use lib.ListN.{length}
 use Rattle.list.specs.Limits.{alphabet}

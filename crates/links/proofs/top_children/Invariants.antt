@@ -1,6 +1,6 @@
 -- `top_children` walks along root's children.
 use mathlib.Core.List.{List, []}
-use Prim.Native.Nat.{ℕ, ◌-◌}
+use Prim.Native.Nat.{ℕ}
 use Rattle.list.specs.Limits.{alphabet}
 use Rattle.trie.specs.Trie.{slots_of, Least, Trie}
 use Rattle.trie.proofs.Seeking.{rank}

@@ -1,6 +1,5 @@
 -- `list::ends_wrong` is `ends_wrong`. The invariant: what is left to test is what was to test at the start.
 use mathlib.Core.Path.{refl, sym, ◌∙◌}
-use Prim.Native.Nat.{◌-◌}
 use native.Mathlib.Omega.{arith}
 use Rattle.list.proofs.Scans.{wrong_here, wrong_next, wrong_last}
 use Rattle.list.proofs.ends_wrong.Goals as goal

@@ -1,7 +1,6 @@
 -- `list::first_sized` finds the first pattern of the size. The invariant: none before is of it.
 use mathlib.Core.Path.{◌≡◌, sym, ◌∙◌}
 use mathlib.Core.Bool.{Bool, true, false}
-use Prim.Native.Nat.{◌-◌}
 use native.Mathlib.Omega.{arith}
 use borrow.Author.Count.{below_none, below_more}
 use Rattle.list.proofs.Patterns.{ordered_from}

@@ -1,5 +1,4 @@
 -- `place_group` looks twice at most; the second look, with a block more, always finds an index.
-use mathlib.Core.Bool.{true, false}
 use Rattle.paper.proofs.Tests.{test}
 use Rattle.plan.specs.Placement.{grown}
 use Rattle.placement.proofs.Placing.{as_found, as_missed, turned_here, turned_full, turned_more, look_more, second_finds}

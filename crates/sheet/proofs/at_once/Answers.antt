@@ -3,9 +3,6 @@ use native.Mathlib.Omega.{arith}
 use Rattle.sheet.proofs.Beginning.{other_first, then_long, else_full}
 use Rattle.sheet.proofs.at_once.Goals as goal
 
-pub is_other-requires : goal.is_other-requires
-is_other-requires c = tt
-
 pub returns-then-is_other : goal.returns-then-is_other
 returns-then-is_other c = other_first c.args.leftmost c.args.kind c.args.length _ c.is_other.ensures c.if-is_other.true
 

@@ -1,7 +1,6 @@
 -- `find_base` goes from one vacant index to the next, until one serves.
 use mathlib.Core.Path.{refl, sym, ◌∙◌}
 use mathlib.Core.List.{List}
-use Prim.Native.Nat.{◌-◌}
 use native.Mathlib.Omega.{arith}
 use Rattle.paper.specs.Patterns.{Entry}
 use Rattle.plan.specs.Groups.{Group}

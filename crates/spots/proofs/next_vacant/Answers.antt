@@ -1,5 +1,4 @@
 -- `next_vacant` passes one run after another, then notes the whole of it.
-use Prim.Native.Nat.{◌-◌}
 use native.Mathlib.Omega.{arith}
 use borrow.Author.Rules.{rules}
 use Rattle.plan.specs.Placement.{Layout}

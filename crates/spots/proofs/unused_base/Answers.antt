@@ -1,6 +1,5 @@
 -- `unused_base` scans the block.
 use mathlib.Core.Path.{sym, ◌∙◌}
-use Prim.Native.Nat.{◌-◌}
 use native.Mathlib.Omega.{arith}
 use Rattle.spots.proofs.Hunting.{scan_none, scan_more, scan_found, scan_end}
 use Rattle.spots.proofs.unused_base.Goals as goal

@@ -1,6 +1,5 @@
 -- `add` walks down the trie by the bytes of one pattern and makes the states that are missing.
 use mathlib.Core.Path.{refl, ap, ◌∙◌}
-use Prim.Native.Nat.{◌-◌}
 use native.Mathlib.Numerals.{add-one}
 use native.Mathlib.Omega.{arith}
 use lib.ListN.{length}
@@ -39,23 +38,23 @@ pub loop-i-preserved : goal.loop-i-preserved
 loop-i-preserved c = let byte = c.wide-byte.ensures in
     elim c.match-locate.branch [
       | in-At w ↦ rw (w.trie-is, w.n-is, w.s-is) (
-          omega arith,
-          c.loop-i.invariant.1,
-          c.loop-i.invariant.2,
-          λ names I e.
-              let A = c.loop-i.invariant.3 names I e in
-              adding_old A c.loop-i-test.true _ (rw byte.0 at (located_at _ _ _ _ _ (c.locate.ensures A.cur A.trie A.inside) w.in-At.is)),
-        )
+        omega arith,
+        c.loop-i.invariant.1,
+        c.loop-i.invariant.2,
+        λ names I e.
+            let A = c.loop-i.invariant.3 names I e in
+            adding_old A c.loop-i-test.true _ (rw byte.0 at (located_at _ _ _ _ _ (c.locate.ensures A.cur A.trie A.inside) w.in-At.is)),
+      )
       | in-Between+else-slots-n w ↦ (
-          omega arith,
-          ap length w.trie-is ∙ w.insert.auto.trie ∙ c.loop-i.invariant.1,
-          omega (arith, w.n-is, w.if-slots-n.false),
-          λ names I e.
-              let A = c.loop-i.invariant.3 names I e in
-              rw (w.trie-is, w.n-is, w.s-is)
-              (adding_new A c.loop-i-test.true _ _ _ _ (rw byte.0 at byte.1) (add-one _)
-              (rw byte.0 at (located_between _ _ _ _ _ _ (c.locate.ensures A.cur A.trie A.inside) w.in-Between.is)) (rw byte.0 at w.insert.ensures)),
-        )
+        omega arith,
+        ap length w.trie-is ∙ w.insert.auto.trie ∙ c.loop-i.invariant.1,
+        omega (arith, w.n-is, w.if-slots-n.false),
+        λ names I e.
+            let A = c.loop-i.invariant.3 names I e in
+            rw (w.trie-is, w.n-is, w.s-is)
+            (adding_new A c.loop-i-test.true _ _ _ _ (rw byte.0 at byte.1) (add-one _)
+            (rw byte.0 at (located_between _ _ _ _ _ _ (c.locate.ensures A.cur A.trie A.inside) w.in-Between.is)) (rw byte.0 at w.insert.ensures)),
+      )
     ]
 
 pub returns : goal.returns

@@ -1,6 +1,5 @@
 -- `is_barred` walks down the trie and meets an own output before the last byte exactly if an entry is a proper prefix.
 use mathlib.Core.Path.{sym, ◌∙◌}
-use Prim.Native.Nat.{◌-◌}
 use native.Mathlib.Omega.{arith}
 use Rattle.trie.proofs.Adding.{located_at, located_between}
 use Rattle.trie.proofs.Dropping.{walking, met, missing, onward, through}

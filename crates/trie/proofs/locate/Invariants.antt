@@ -1,6 +1,6 @@
 -- `locate` finds the child on a byte, or the gap for it: it walks along the children by rising byte.
 use mathlib.Core.List.{List}
-use Prim.Native.Nat.{ℕ, ◌-◌}
+use Prim.Native.Nat.{ℕ}
 use Rattle.list.specs.Limits.{alphabet}
 use Rattle.trie.specs.Trie.{slots_of, Least, Trie}
 use Rattle.trie.proofs.Seeking.{Seeking, rank}

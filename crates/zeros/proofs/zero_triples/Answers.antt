@@ -1,5 +1,4 @@
 -- `zeros::zero_triples` leaves nothing but zeros: the law of a fill from the front, at its element.
-use Prim.Native.Nat.{◌-◌}
 use native.Mathlib.Omega.{arith}
 use Rattle.zeros.specs.Rows.{zeros}
 use Rattle.zeros.proofs.Fill.{fill_none, fill_more, fill_all}

@@ -3,7 +3,6 @@ use Rattle.search.proofs.Advancing.{stepped}
 use Rattle.search.proofs.Loops.{Shallow, kept_end, kept_stuck, kept_root, kept_broken, kept_given, kept_nothing, kept_matched, row_fits, few_before, falls_short}
 use Rattle.table.specs.Agrees.{lent}
 use native.Mathlib.Omega.{arith}
-use Prim.Native.Nat.{◌-◌}
 use mathlib.Core.Path.{refl, sym, ◌∙◌}
 use Rattle.search.proofs.keep.keep.Goals as goal
 use Rattle.search.proofs.keep.keep.Goals.{At-loop-at}

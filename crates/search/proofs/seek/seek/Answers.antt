@@ -3,7 +3,6 @@ use Rattle.search.proofs.Advancing.{Stepped, stepped}
 use Rattle.search.proofs.Loops.{Shallow, sought_given, sought_broken, sought_end, sought_stuck, sought_on, few_before, falls_short}
 use Rattle.table.specs.Agrees.{lent}
 use native.Mathlib.Omega.{arith}
-use Prim.Native.Nat.{◌-◌}
 use mathlib.Core.Path.{refl, sym, ◌∙◌}
 use Rattle.search.proofs.seek.seek.Goals as goal
 use Rattle.search.proofs.seek.seek.Goals.{At-loop-row, In-On}
