@@ -1,21 +1,21 @@
 -- The claims of specs/Claims.antt: the tables that hold rows, seen by a build and by the test for hazards.
-use mathlib.Core.Path.{◌≡◌, refl, sym, ap, ap₂, ◌∙◌}
-use mathlib.Core.Bool.{Bool, true, false, ◌&&◌, ◌||◌}
+use mathlib.Core.Path.{◌≡◌, refl, ap, ap₂, ◌∙◌}
+use mathlib.Core.Bool.{Bool, false, ◌&&◌, ◌||◌}
 use mathlib.Core.List.{List, [], ◌∷◌, ◌++◌, map, append_assoc}
-use Prim.Native.Nat.{ℕ, zero, suc, ◌+◌, ◌-◌, ◌≤◌, ◌<◌}
+use Prim.Native.Nat.{ℕ, ◌+◌, ◌-◌}
 use native.Mathlib.Omega.{arith}
-use lib.Dec.{eqb, ltb}
+use lib.Dec.{eqb}
 use lib.ListN.{length, take, drop, length-append}
 use lib.Seq.{take-append_seam, drop_at}
 use Rattle.paper.specs.Lists.{same}
 use Rattle.paper.proofs.Tests.{le_ltb}
 use Rattle.paper.proofs.Strings.{same_eq, eq_same}
-use Rattle.list.specs.Listed.{patterns_from, patterns_of, falls, last_from}
+use Rattle.list.specs.Listed.{patterns_from, falls, last_from}
 use Rattle.list.specs.Claims.{SoundEnds}
 use Rattle.desk.specs.Rows.{Listed}
-use Rattle.desk.specs.Codes.{joined, ends_from, marks_of, Held}
+use Rattle.desk.specs.Codes.{joined, ends_from, marks_of}
 use Rattle.desk.specs.Hazards.{hazard, warned}
-use Rattle.desk.specs.Claims.{HeldClaims, DeskClaims}
+use Rattle.desk.specs.Claims.{DeskClaims}
 
 -- the codes of rows
 abbrev codes_of : List Listed → List (List ℕ)

@@ -1,20 +1,18 @@
 -- Laws of the whole list: what the loop over its lines keeps, and what each way out of it ends with.
-use mathlib.Core.Path.{◌≡◌, refl, sym, ap, ap₂, subst, ◌∙◌}
-use mathlib.Core.Bool.{Bool, true, false}
-use mathlib.Core.List.{List, [], ◌∷◌, ◌++◌, map, append_assoc, append-nil}
+use mathlib.Core.Path.{◌≡◌, refl, sym, ap, subst, ◌∙◌}
+use mathlib.Core.List.{List, [], ◌∷◌, ◌++◌, append_assoc, append-nil}
 use mathlib.Core.Option.{Option, none, some}
-use Prim.Native.Nat.{ℕ, zero, suc, ◌+◌, ◌-◌, ◌≤◌, ◌<◌}
+use Prim.Native.Nat.{ℕ, suc, ◌+◌, ◌-◌, ◌≤◌, ◌<◌}
 use native.Mathlib.Numerals.{add-one}
 use native.Mathlib.Nat.{not-suc-le-zero}
 use native.Mathlib.Omega.{arith}
-use lib.Dec.{eqb, leb}
-use lib.ListN.{length, take, drop, get_or, set, length-append, length-drop, drop_of_length-le}
+use lib.Dec.{eqb}
+use lib.ListN.{length, take, drop, set, length-append, length-drop, drop_of_length-le}
 use lib.Seq.{take-suc-set, drop-drop}
-use Rattle.paper.specs.Lists.{pick}
 use Rattle.paper.proofs.Tests.{test, le_leb, lt_leb}
 use Rattle.desk.specs.Stretches.{line_feed, ahead, line_end, on_first, lines_of, bare}
 use Rattle.desk.specs.Rows.{Listed, row_of}
-use Rattle.desk.specs.Codes.{Listing, rows, bad_value, too_many, after, first, listing, codes, joined, ends_from, values_of, marks_of, Held, Taken, line_told, Inside}
+use Rattle.desk.specs.Codes.{Listing, rows, bad_value, too_many, after, listing, codes, joined, ends_from, values_of, marks_of, Held, Taken, line_told, Inside}
 use Rattle.desk.specs.declared.codes.Line.{Line}
 use Rattle.desk.specs.declared.codes.Line.TheVariants as line
 

@@ -1,16 +1,16 @@
 -- Laws of line and column.
 use mathlib.Core.Path.{◌≡◌, refl, sym, ap, ◌∙◌}
 use mathlib.Core.List.{List, [], ◌∷◌, ◌++◌}
-use Prim.Native.Nat.{ℕ, zero, suc, ◌+◌, ◌≤◌, ◌<◌}
+use Prim.Native.Nat.{ℕ, suc, ◌+◌, ◌≤◌}
 use native.Mathlib.Numerals.{add-one}
 use native.Mathlib.Omega.{arith}
 use lib.Dec.{eqb}
-use lib.ListN.{length, take, get_or, length-take}
+use lib.ListN.{length, take, get_or}
 use lib.Seq.{take-suc, length-take-le}
 use Rattle.paper.specs.Lists.{pick}
 use Rattle.paper.proofs.Tests.{test, eq_eqb, ne_eqb}
 use Rattle.desk.specs.Stretches.{line_feed}
-use Rattle.desk.specs.Places.{feeds_from, since_feed, line_at, column_at, Right, Next}
+use Rattle.desk.specs.Places.{feeds_from, since_feed, Right, Next}
 use Rattle.desk.specs.declared.places.Place.{Place}
 
 -- ---- one byte more

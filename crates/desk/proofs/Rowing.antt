@@ -1,19 +1,16 @@
 -- Laws of rows: what stands before a tabulator, the row of a line, and where its code stands in the file.
 use mathlib.Core.Path.{◌≡◌, refl, sym, ap, subst, ◌∙◌}
-use mathlib.Core.Bool.{Bool, true, false}
-use mathlib.Core.List.{List, [], ◌∷◌, ◌++◌}
-use mathlib.Core.Option.{Option, none, some}
-use Prim.Native.Nat.{ℕ, zero, suc, ◌+◌, ◌-◌, ◌≤◌, ◌<◌}
+use mathlib.Core.List.{List, [], ◌∷◌}
+use mathlib.Core.Option.{none, some}
+use Prim.Native.Nat.{ℕ, ◌+◌, ◌-◌, ◌≤◌}
 use native.Mathlib.Numerals.{add-one}
 use native.Mathlib.Omega.{arith}
-use lib.Dec.{eqb}
-use lib.ListN.{length, take, drop, get_or, length-take, length-drop}
+use lib.ListN.{length, take, drop, get_or, length-drop}
 use lib.Seq.{take_all, take-take, take-add, drop_at, drop-drop, length-take-le}
-use Rattle.paper.specs.Lists.{pick, is_nil}
 use Rattle.paper.proofs.Tests.{eq_eqb, ne_eqb}
-use Rattle.desk.specs.Stretches.{ahead, line_feed, bare, bare_length}
+use Rattle.desk.specs.Stretches.{ahead, bare, bare_length}
 use Rattle.desk.specs.Numbers.{number_of}
-use Rattle.desk.specs.Rows.{tabulator, hazard_mark, Listed, Told, marked, head_of, row_of, row_with, row_told, Within}
+use Rattle.desk.specs.Rows.{tabulator, hazard_mark, marked, head_of, row_of, row_with, row_told, Within}
 use Rattle.desk.specs.declared.rows.Row.{Row}
 use Rattle.desk.specs.declared.rows.Row.TheVariants.{Code, BadValue}
 

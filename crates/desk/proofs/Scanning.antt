@@ -1,17 +1,16 @@
 -- Laws of stretches of bytes: what the loops over them keep and end with.
-use mathlib.Core.Path.{◌≡◌, refl, sym, ap, ◌∙◌}
-use mathlib.Core.Bool.{Bool, true, false, ◌&&◌}
+use mathlib.Core.Path.{◌≡◌, refl, sym, ap}
+use mathlib.Core.Bool.{true, false}
 use mathlib.Core.List.{List, [], ◌∷◌, ◌++◌, append_assoc, append-nil}
-use Prim.Native.Nat.{ℕ, zero, suc, ◌+◌, ◌-◌, ◌≤◌, ◌<◌}
+use Prim.Native.Nat.{ℕ, suc, ◌+◌, ◌-◌, ◌≤◌, ◌<◌}
 use native.Mathlib.Numerals.{add-one}
-use native.Mathlib.Nat.{not-suc-le-zero}
 use native.Mathlib.Omega.{arith}
 use lib.Dec.{eqb}
-use lib.ListN.{length, take, drop, get_or, set, drop_of_length-le, length-set, length-drop}
+use lib.ListN.{length, take, drop, get_or, set, drop_of_length-le}
 use lib.Seq.{drop-cons, take-suc, take-suc-set, take_all}
-use Rattle.paper.specs.Lists.{pick, same}
+use Rattle.paper.specs.Lists.{same}
 use Rattle.paper.proofs.Tests.{test, eq_eqb, ne_eqb}
-use Rattle.desk.specs.Stretches.{line_feed, carriage_return, ahead, on_first, lines_of, bare_length}
+use Rattle.desk.specs.Stretches.{carriage_return, ahead, bare_length}
 
 -- ---- up to a byte
 

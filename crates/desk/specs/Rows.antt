@@ -1,5 +1,5 @@
 -- The row of a line: mark, value and code.
-use Rattle.std.specs.Prelude.{Bool, List, [], ◌∷◌, ℕ, suc, ◌≤◌, eqb, length, take, drop, get_or}
+use Rattle.std.specs.Prelude.{List, [], ◌∷◌, ℕ, suc, ◌≤◌, eqb, length, take, drop}
 use Rattle.std.proofs.Math.Option.{Option, none, some}
 use Rattle.paper.specs.Lists.{pick, is_nil}
 use Rattle.desk.specs.Stretches.{ahead}

@@ -6,7 +6,7 @@ ghost use Rattle.list.specs.Limits.{smaller};
 use crate::stretches::LINE_FEED;
 use list::limits::{MOST_BYTES, least};
 
-#[derive(Drop)]
+#[derive(Clone, Copy)]
 pub struct Place {
     pub at: usize,
     pub line: usize,

@@ -2,6 +2,8 @@
 ghost use Rattle.std.specs.Prelude.{◌≡◌, false};
 ghost use Rattle.desk.specs.Shown.{is_control, Clean};
 
+use std::fmt::InlineText;
+
 const BACKSLASH: u8 = 92;
 
 const LOWER_X: u8 = 120;
@@ -9,6 +11,9 @@ const LOWER_X: u8 = 120;
 const DELETE: u8 = 127;
 
 const SPACE: u8 = 32;
+
+// No number of 64 bits has more digits.
+const MOST_DIGITS: usize = 20;
 
 fn put_byte(line: &mut [u8], end: usize, byte: u8) -> usize
     ensures { is_control byte ≡ false → Clean line.old line.new end result }
@@ -31,9 +36,8 @@ pub fn put(line: &mut [u8], end: usize, part: &[u8]) -> usize {
 }
 
 pub fn put_number(line: &mut [u8], end: usize, number: u64) -> usize {
-    let mut digits = [0u8; 20];
-    let count = io::decimal(number, &mut digits);
-    put(line, end, &digits[..count])
+    let digits = InlineText::<MOST_DIGITS>::of(number);
+    put(line, end, digits.as_str().as_bytes())
 }
 
 fn digit(half: u8) -> u8

@@ -6,7 +6,7 @@ const HYPHEN: u8 = 45;
 // The list and the sheet.
 const MOST_NAMES: u32 = 2;
 
-#[derive(Drop)]
+#[derive(Clone, Copy)]
 pub enum Way {
     Overlapping,
     Plain,
@@ -17,7 +17,7 @@ pub enum Way {
 }
 
 // What the next word is, or what is known not to need one.
-#[derive(Drop)]
+#[derive(Clone, Copy)]
 pub enum Stand {
     Open,
     // The next word says the search.
@@ -32,7 +32,7 @@ pub enum Stand {
 }
 
 // What is wanted, after some words.
-#[derive(Drop)]
+#[derive(Clone, Copy)]
 pub struct Wish {
     pub way: Way,
     pub numbers: bool,
