@@ -1,5 +1,7 @@
 // Inner: what the command for the yard tells: the matches, for people or for programs, and what is refused. Lines are put together in a buffer and
 // written at once.
+#![tactic(auto)]
+
 pub mod lines;
 mod matches;
 mod numbers;

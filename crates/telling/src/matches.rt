@@ -2,6 +2,7 @@
 use desk::hazards::is_hazard;
 use desk::words::Way;
 use search::{Answer, Refusal, Search};
+use std::io;
 use table::{Counts, Depth};
 
 // A proved loop has to end. So the calls are counted, up to a number that no search uses up: a sheet has at most 65,536 places, at each of which at most
@@ -12,15 +13,16 @@ pub(crate) const CALLS: u32 = 67108865;
 #[derive(Drop)]
 pub(crate) enum Outcome {
     Done,
-    Unwritten,
+    // Standard output takes no more, and why.
+    Unwritten(io::Error),
     Refused(Refusal),
 }
 
-pub(crate) fn outcome_of(written: bool) -> Outcome {
-    if written {
-        return Outcome::Done;
+pub(crate) fn outcome_of(written: io::Result<()>) -> Outcome {
+    match written {
+        Ok(()) => Outcome::Done,
+        Err(why) => Outcome::Unwritten(why),
     }
-    Outcome::Unwritten
 }
 
 // The next answer of a search.

@@ -1,29 +1,32 @@
 // What is printed for programs: start, end and value of each match, and the moves.
-use crate::lines::{LINE, OUT, write_line};
+use crate::lines::{LINE, write_line};
 use crate::matches::{CALLS, Outcome, call, outcome_of};
 use desk::text::{put, put_number};
 use desk::words::Way;
 use search::{Answer, Match, Refusal, Search};
+use std::io;
+use std::io::Stdout;
 use table::{Counts, Depth};
 
-fn write_match(line: &mut [u8; LINE], found: Match) -> bool {
+fn write_match(out: Stdout, line: &mut [u8; LINE], found: Match) -> io::Result<()> {
     let started = put_number(line, 0, found.start as u64);
     let parted = put(line, started, b" ");
     let ended = put_number(line, parted, found.end as u64);
     let again = put(line, ended, b" ");
     let valued = put_number(line, again, found.value as u64);
     let last = put(line, valued, b"\n");
-    write_line(OUT, line, last)
+    write_line(&out, line, last)
 }
 
-fn write_moves(line: &mut [u8; LINE], moves: u64) -> bool {
+fn write_moves(out: Stdout, line: &mut [u8; LINE], moves: u64) -> io::Result<()> {
     let begun = put(line, 0, b"moves ");
     let counted = put_number(line, begun, moves);
     let last = put(line, counted, b"\n");
-    write_line(OUT, line, last)
+    write_line(&out, line, last)
 }
 
 pub(crate) fn print_numbers(
+    out: Stdout,
     way: Way,
     base: &[u32],
     link: &[u32],
@@ -41,13 +44,13 @@ pub(crate) fn print_numbers(
             way, at, base, link, output, check, depth, outs, counts, sheet,
         ) {
             Answer::Match(found, next) => {
-                if !write_match(&mut line, found) {
-                    return Outcome::Unwritten;
+                if let Err(why) = write_match(out, &mut line, found) {
+                    return Outcome::Unwritten(why);
                 }
                 at = next;
             }
             Answer::End(last) => {
-                return outcome_of(write_moves(&mut line, last.moves));
+                return outcome_of(write_moves(out, &mut line, last.moves));
             }
             Answer::Refused(why, _) => {
                 return Outcome::Refused(why);

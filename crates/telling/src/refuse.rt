@@ -1,79 +1,99 @@
 // What is refused, in one line on standard error.
-use crate::lines::{ERRORS, LINE, NAME, write_line};
+use crate::lines::{LINE, NAME, write_line};
 use desk::text::{put, put_number, put_shown};
 use desk::words::Stand;
 use search::Refusal;
+use std::env::Env;
+use std::fmt::{Display, InlineText};
+use std::io;
+
+// The room of the words that say why something failed.
+const REASON: usize = 256;
 
 // The line ends with a hint.
-fn tell_hinted(line: &mut [u8; LINE], end: usize) {
+fn tell_hinted(rt: &HostRuntime, line: &mut [u8; LINE], end: usize) -> io::Result<()> {
     let hinted = put(line, end, b" (yard --help tells how to ask)\n");
-    write_line(ERRORS, line, hinted);
+    write_line(&rt.stderr(), line, hinted)
 }
 
 // About a word of the command line, which is shown.
-fn tell_word(what: &[u8], i: usize) {
+fn tell_word(rt: &HostRuntime, what: &[u8], i: usize) -> io::Result<()> {
     let mut word = [0u8; NAME];
     let mut line = [0u8; LINE];
-    let size = os::arg(i, &mut word);
+    let size = rt.arg(i, &mut word).unwrap_or(0);
     let begun = put(&mut line, 0, b"yard: ");
     let said = put(&mut line, begun, what);
     let shown = put_shown(&mut line, said, &word[..size]);
-    tell_hinted(&mut line, shown);
+    tell_hinted(rt, &mut line, shown)
 }
 
 // About the words as a whole.
-fn tell_words(what: &[u8]) {
+fn tell_words(rt: &HostRuntime, what: &[u8]) -> io::Result<()> {
     let mut line = [0u8; LINE];
     let begun = put(&mut line, 0, b"yard: ");
     let said = put(&mut line, begun, what);
-    tell_hinted(&mut line, said);
+    tell_hinted(rt, &mut line, said)
 }
 
-pub fn tell_fault(stand: Stand, word: usize) {
+pub fn tell_fault(rt: &HostRuntime, stand: Stand, word: usize) -> io::Result<()> {
     match stand {
-        Stand::UnknownOption => tell_word(b"unknown option ", word),
-        Stand::UnknownSearch => tell_word(b"unknown search ", word),
+        Stand::UnknownOption => tell_word(rt, b"unknown option ", word),
+        Stand::UnknownSearch => tell_word(rt, b"unknown search ", word),
         Stand::NoSearch => tell_words(
+            rt,
             b"--search wants a word: overlapping, plain, longest or first",
         ),
-        Stand::OneName => tell_words(b"a list without a sheet: give both names or none"),
-        Stand::ThirdName => tell_word(b"a third name: ", word),
-        Stand::LongWord => tell_words(b"a word of the command line is too long"),
-        _ => {}
+        Stand::OneName => tell_words(rt, b"a list without a sheet: give both names or none"),
+        Stand::ThirdName => tell_word(rt, b"a third name: ", word),
+        Stand::LongWord => tell_words(rt, b"a word of the command line is too long"),
+        _ => Ok(()),
     }
 }
 
-// Why a file cannot be had: errno has the reason.
-pub fn tell_failed(name: &[u8]) {
+// Puts why something failed, without the number of the cause that std puts behind it.
+fn put_reason<D: Display + Drop>(line: &mut [u8; LINE], end: usize, why: D) -> usize {
+    let text = InlineText::<REASON>::of(why);
+    let words = text.as_str();
+    match words.rsplit_once(" (os error ") {
+        Some((reason, _)) => put(line, end, reason.as_bytes()),
+        None => put(line, end, words.as_bytes()),
+    }
+}
+
+// The line ends with why it failed.
+fn fail_line<D: Display + Drop>(
+    rt: &HostRuntime,
+    line: &mut [u8; LINE],
+    end: usize,
+    why: D,
+) -> io::Result<()> {
+    let parted = put(line, end, b": ");
+    let reasoned = put_reason(line, parted, why);
+    let ended = put(line, reasoned, b"\n");
+    write_line(&rt.stderr(), line, ended)
+}
+
+// Why a file cannot be had.
+pub fn tell_failed<D: Display + Drop>(rt: &HostRuntime, name: &[u8], why: D) -> io::Result<()> {
     let mut line = [0u8; LINE];
     let begun = put(&mut line, 0, b"yard: ");
     let named = put_shown(&mut line, begun, name);
-    fail_line(&line, named);
-}
-
-fn fail_part(what: &[u8], size: usize) {
-    if size <= what.len() {
-        os::fail(&what[0..size]);
-    }
-}
-
-fn fail_line(line: &[u8; LINE], size: usize) {
-    fail_part(line, size);
+    fail_line(rt, &mut line, named, why)
 }
 
 // About a whole file.
-pub fn tell_file(name: &[u8], what: &[u8]) {
+pub fn tell_file(rt: &HostRuntime, name: &[u8], what: &[u8]) -> io::Result<()> {
     let mut line = [0u8; LINE];
     let begun = put(&mut line, 0, b"yard: ");
     let named = put_shown(&mut line, begun, name);
     let parted = put(&mut line, named, b": ");
     let said = put(&mut line, parted, what);
     let ended = put(&mut line, said, b"\n");
-    write_line(ERRORS, &line, ended);
+    write_line(&rt.stderr(), &line, ended)
 }
 
 // About a line of a file; its number here counts from 0.
-pub fn tell_line(name: &[u8], number: u64, what: &[u8]) {
+pub fn tell_line(rt: &HostRuntime, name: &[u8], number: u64, what: &[u8]) -> io::Result<()> {
     let mut line = [0u8; LINE];
     let begun = put(&mut line, 0, b"yard: ");
     let named = put_shown(&mut line, begun, name);
@@ -82,22 +102,32 @@ pub fn tell_line(name: &[u8], number: u64, what: &[u8]) {
     let again = put(&mut line, numbered, b": ");
     let said = put(&mut line, again, what);
     let ended = put(&mut line, said, b"\n");
-    write_line(ERRORS, &line, ended);
+    write_line(&rt.stderr(), &line, ended)
 }
 
-pub fn tell_cut(name: &[u8]) {
-    tell_file(name, b"the file cannot be read to its end");
+pub fn tell_cut(rt: &HostRuntime, name: &[u8]) -> io::Result<()> {
+    tell_file(rt, name, b"the file cannot be read to its end")
 }
 
 // A sheet that cannot be searched. 9 and 11 cannot be met here: the kind is the search's, and the tables are as the build left them.
-pub(crate) fn tell_refused(name: &[u8], why: Refusal) {
+pub(crate) fn tell_refused(rt: &HostRuntime, name: &[u8], why: Refusal) -> io::Result<()> {
     match why {
-        Refusal::WrongKind => tell_file(name, b"refusal 9: the list was built for another search"),
-        Refusal::LongText => tell_file(name, b"refusal 10: the sheet is longer than 65536 bytes"),
-        Refusal::Damage => tell_file(name, b"refusal 11: the tables are damaged"),
+        Refusal::WrongKind => tell_file(
+            rt,
+            name,
+            b"refusal 9: the list was built for another search",
+        ),
+        Refusal::LongText => tell_file(
+            rt,
+            name,
+            b"refusal 10: the sheet is longer than 65536 bytes",
+        ),
+        Refusal::Damage => tell_file(rt, name, b"refusal 11: the tables are damaged"),
     }
 }
 
-pub(crate) fn tell_unwritten() {
-    os::fail(b"yard: standard output");
+pub fn tell_unwritten(rt: &HostRuntime, why: io::Error) -> io::Result<()> {
+    let mut line = [0u8; LINE];
+    let named = put(&mut line, 0, b"yard: standard output");
+    fail_line(rt, &mut line, named, why)
 }

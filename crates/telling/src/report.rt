@@ -1,17 +1,19 @@
 // What is printed for people: a heading, the hazards, the other matches, and the hazards' number again.
 ghost use Rattle.desk.specs.Places.{Right};
 
-use crate::lines::{LINE, OUT, write_line};
+use crate::lines::{LINE, write_line};
 use crate::matches::{CALLS, Outcome, call, hazard_at, outcome_of};
 use desk::places::{Place, first_place, follow, place_at};
 use desk::text::{put, put_number, put_shown};
 use desk::words::Way;
 use search::{Answer, Match, Refusal, Search};
+use std::io;
+use std::io::Stdout;
 use std::num::wrapping_add_u64;
 use table::{Counts, Depth};
 
 // How many matches of each sort there are.
-#[derive(Drop)]
+#[derive(Clone, Copy)]
 struct Tally {
     hazards: u64,
     others: u64,
@@ -85,12 +87,13 @@ fn put_sort(line: &mut [u8; LINE], hazard: bool) -> usize {
 }
 
 fn write_found(
+    out: Stdout,
     line: &mut [u8; LINE],
     hazard: bool,
     sheet: &[u8],
     found: Match,
     place: Place,
-) -> bool {
+) -> io::Result<()> {
     let sorted = put_sort(line, hazard);
     let begun = put(line, sorted, b"line ");
     let lined = put_number(line, begun, place.line as u64);
@@ -101,29 +104,31 @@ fn write_found(
     let valuing = put(line, shown, b" (value ");
     let valued = put_number(line, valuing, found.value as u64);
     let last = put(line, valued, b")\n");
-    write_line(OUT, line, last)
+    write_line(&out, line, last)
 }
 
 // A match of the other sort is passed over.
 fn write_wanted(
+    out: Stdout,
     line: &mut [u8; LINE],
     hazards: bool,
     hazard: bool,
     sheet: &[u8],
     found: Match,
     near: Place,
-) -> bool
+) -> io::Result<()>
     requires { Right sheet.now near }
 {
     if hazard != hazards {
-        return true;
+        return Ok(());
     }
     let place = place_at(sheet, near, found.start);
-    write_found(line, hazard, sheet, found, place)
+    write_found(out, line, hazard, sheet, found, place)
 }
 
 // The hazards, or the others, in the order of the search. `near` is a place before which no later match begins.
 fn print_sort(
+    out: Stdout,
     hazards: bool,
     way: Way,
     bytes: &[u8],
@@ -148,8 +153,10 @@ fn print_sort(
             Answer::Match(found, next) => {
                 near = follow(sheet, near, found.end);
                 let hazard = hazard_at(bytes, ends, marks, sheet, found.start, found.end);
-                if !write_wanted(&mut line, hazards, hazard, sheet, found, near) {
-                    return Outcome::Unwritten;
+                if let Err(why) = write_wanted(
+                    out, &mut line, hazards, hazard, sheet, found, near,
+                ) {
+                    return Outcome::Unwritten(why);
                 }
                 at = next;
             }
@@ -173,7 +180,7 @@ fn put_counted(line: &mut [u8; LINE], end: usize, number: u64, one: &[u8], many:
     put(line, said, many)
 }
 
-fn write_heading(line: &mut [u8; LINE], name: &[u8], tally: Tally) -> bool {
+fn write_heading(out: Stdout, line: &mut [u8; LINE], name: &[u8], tally: Tally) -> io::Result<()> {
     let named = put_shown(line, 0, name);
     let parted = put(line, named, b": ");
     let hazards = put_counted(line, parted, tally.hazards, b" hazard, ", b" hazards, ");
@@ -184,35 +191,36 @@ fn write_heading(line: &mut [u8; LINE], name: &[u8], tally: Tally) -> bool {
         b" other match\n",
         b" other matches\n",
     );
-    write_line(OUT, line, others)
+    write_line(&out, line, others)
 }
 
 // No match at all is said plainly.
-fn write_nothing(line: &mut [u8; LINE], tally: Tally) -> bool {
+fn write_nothing(out: Stdout, line: &mut [u8; LINE], tally: Tally) -> io::Result<()> {
     if tally.hazards == 0 {
         if tally.others == 0 {
             let said = put(line, 0, b"No code of the list is in the sheet.\n");
-            return write_line(OUT, line, said);
+            return write_line(&out, line, said);
         }
     }
-    true
+    Ok(())
 }
 
-fn write_last(line: &mut [u8; LINE], name: &[u8], hazards: u64) -> bool {
+fn write_last(out: Stdout, line: &mut [u8; LINE], name: &[u8], hazards: u64) -> io::Result<()> {
     if hazards == 0 {
         let none = put(line, 0, b"No hazards in ");
         let named = put_shown(line, none, name);
         let ended = put(line, named, b".\n");
-        return write_line(OUT, line, ended);
+        return write_line(&out, line, ended);
     }
     let begun = put(line, 0, b"!!! ");
     let counted = put_counted(line, begun, hazards, b" HAZARD in ", b" HAZARDS in ");
     let named = put_shown(line, counted, name);
     let ended = put(line, named, b"\n");
-    write_line(OUT, line, ended)
+    write_line(&out, line, ended)
 }
 
 pub(crate) fn print_report(
+    out: Stdout,
     way: Way,
     name: &[u8],
     bytes: &[u8],
@@ -231,23 +239,23 @@ pub(crate) fn print_report(
     let tally = count_matches(
         way, bytes, ends, marks, base, link, output, check, depth, outs, counts, sheet,
     );
-    if !write_heading(&mut line, name, tally) {
-        return Outcome::Unwritten;
+    if let Err(why) = write_heading(out, &mut line, name, tally) {
+        return Outcome::Unwritten(why);
     }
-    if !write_nothing(&mut line, tally) {
-        return Outcome::Unwritten;
+    if let Err(why) = write_nothing(out, &mut line, tally) {
+        return Outcome::Unwritten(why);
     }
     let first = print_sort(
-        true, way, bytes, ends, marks, base, link, output, check, depth, outs, counts, sheet,
+        out, true, way, bytes, ends, marks, base, link, output, check, depth, outs, counts, sheet,
     );
     let Outcome::Done = first else {
         return first;
     };
     let second = print_sort(
-        false, way, bytes, ends, marks, base, link, output, check, depth, outs, counts, sheet,
+        out, false, way, bytes, ends, marks, base, link, output, check, depth, outs, counts, sheet,
     );
     let Outcome::Done = second else {
         return second;
     };
-    outcome_of(write_last(&mut line, name, tally.hazards))
+    outcome_of(write_last(out, &mut line, name, tally.hazards))
 }

@@ -6,6 +6,7 @@ use crate::report::print_report;
 use desk::words::Way;
 use list::limits::{MOST_CELLS, MOST_LISTED};
 use search::{Answer, Search};
+use std::io;
 use table::{Counts, Depth};
 
 // As many as any list within the limits needs.
@@ -13,16 +14,17 @@ pub const CELLS: usize = MOST_CELLS;
 
 pub const OUTPUTS: usize = MOST_LISTED;
 
-fn tell_outcome(name: &[u8], outcome: Outcome) {
+fn tell_outcome(rt: &HostRuntime, name: &[u8], outcome: Outcome) -> io::Result<()> {
     match outcome {
-        Outcome::Done => {}
-        Outcome::Unwritten => tell_unwritten(),
-        Outcome::Refused(why) => tell_refused(name, why),
+        Outcome::Done => Ok(()),
+        Outcome::Unwritten(why) => tell_unwritten(rt, why),
+        Outcome::Refused(why) => tell_refused(rt, name, why),
     }
 }
 
 // The first answer of the search says whether it takes the sheet. Nothing is printed before.
 fn tell_lent(
+    rt: &HostRuntime,
     way: Way,
     numbers: bool,
     name: &[u8],
@@ -37,27 +39,50 @@ fn tell_lent(
     outs: &[[u32; 3]],
     counts: Counts,
     sheet: &[u8],
-) {
+) -> io::Result<()> {
     let begun = Search::fresh();
     if let Answer::Refused(why, _) = call(
         way, begun, base, link, output, check, depth, outs, counts, sheet,
     ) {
-        tell_refused(name, why);
-        return;
+        return tell_refused(rt, name, why);
     }
     if numbers {
-        let told = print_numbers(way, base, link, output, check, depth, outs, counts, sheet);
-        tell_outcome(name, told);
-        return;
+        let told = print_numbers(
+            rt.stdout(),
+            way,
+            base,
+            link,
+            output,
+            check,
+            depth,
+            outs,
+            counts,
+            sheet,
+        );
+        return tell_outcome(rt, name, told);
     }
     let told = print_report(
-        way, name, bytes, ends, marks, base, link, output, check, depth, outs, counts, sheet,
+        rt.stdout(),
+        way,
+        name,
+        bytes,
+        ends,
+        marks,
+        base,
+        link,
+        output,
+        check,
+        depth,
+        outs,
+        counts,
+        sheet,
     );
-    tell_outcome(name, told);
+    tell_outcome(rt, name, told)
 }
 
 // From arrays, which become slices here: to make them slices where they are built is dear to check.
 pub fn tell_all(
+    rt: &HostRuntime,
     way: Way,
     numbers: bool,
     name: &[u8],
@@ -72,9 +97,9 @@ pub fn tell_all(
     outs: &[[u32; 3]; OUTPUTS],
     counts: Counts,
     sheet: &[u8],
-) {
+) -> io::Result<()> {
     tell_lent(
-        way, numbers, name, bytes, ends, marks, base, link, output, check, depth, outs, counts,
+        rt, way, numbers, name, bytes, ends, marks, base, link, output, check, depth, outs, counts,
         sheet,
-    );
+    )
 }
