@@ -1,38 +1,43 @@
 // Document 01's case P3 from the pattern list to the matches: builds bcd, ab and a, and prints what overlapping search says on "abcd", a match
 // in a line, and then the moves.
+#![tactic(auto)]
+
 use build::Built;
 use search::{Answer, Match, Search};
+use std::io;
+use std::io::Stdout;
 use table::{Counts, Depth};
 
 // More calls than the text has matches: at each of its bytes at most 3 patterns end, and the end is said once.
 const CALLS: u32 = 13;
 
-fn say(text: &[u8]) {
-    io::write_all(1, text);
+fn say(out: Stdout, text: &[u8]) -> io::Result<()> {
+    out.write_all(text)
 }
 
 // For a refusal, of which none is due here.
-fn say_refused() {
-    say(b"refused\n");
+fn say_refused(out: Stdout) -> io::Result<()> {
+    say(out, b"refused\n")
 }
 
-fn print_match(found: Match) {
-    io::print_decimal(1, found.start as u64);
-    say(b" ");
-    io::print_decimal(1, found.end as u64);
-    say(b" ");
-    io::print_decimal(1, found.value as u64);
-    say(b"\n");
+fn print_match(out: Stdout, found: Match) -> io::Result<()> {
+    out.print(found.start as u64)?;
+    say(out, b" ")?;
+    out.print(found.end as u64)?;
+    say(out, b" ")?;
+    out.print(found.value as u64)?;
+    say(out, b"\n")
 }
 
-fn print_moves(at: Search) {
-    say(b"moves ");
-    io::print_decimal(1, at.moves);
-    say(b"\n");
+fn print_moves(out: Stdout, at: Search) -> io::Result<()> {
+    say(out, b"moves ")?;
+    out.print(at.moves)?;
+    say(out, b"\n")
 }
 
 // What a search says up to its end.
 fn print_all(
+    out: Stdout,
     base: &[u32],
     link: &[u32],
     output: &[u32],
@@ -41,27 +46,26 @@ fn print_all(
     outs: &[[u32; 3]],
     counts: Counts,
     text: &[u8],
-) {
+) -> io::Result<()> {
     let mut at = Search::fresh();
     for _ in 0..CALLS {
         match at.next_overlapping(base, link, output, check, depth, outs, counts, text) {
             Answer::Match(found, next) => {
-                print_match(found);
+                print_match(out, found)?;
                 at = next;
             }
             Answer::End(last) => {
-                print_moves(last);
-                return;
+                return print_moves(out, last);
             }
             Answer::Refused(_, _) => {
-                say_refused();
-                return;
+                return say_refused(out);
             }
         }
     }
+    Ok(())
 }
 
-fn main() {
+fn main(rt: HostRuntime) -> io::Result<()> {
     let mut trie = [[0u32; 5]; 8];
     let mut owns = [[0u32; 2]; 4];
     let mut notes = [[0u32; 6]; 8];
@@ -91,10 +95,17 @@ fn main() {
         &mut outs,
     );
     let Built::Made(counts) = built else {
-        say_refused();
-        return;
+        return say_refused(rt.stdout());
     };
     print_all(
-        &base, &link, &output, &check, &depth, &outs, counts, b"abcd",
-    );
+        rt.stdout(),
+        &base,
+        &link,
+        &output,
+        &check,
+        &depth,
+        &outs,
+        counts,
+        b"abcd",
+    )
 }
