@@ -75,7 +75,7 @@ fn with_room(numbers: &[u32], run: Run) -> Run {
 }
 
 // A build's answer in numbers: the refusal or 0, the index that 4 and 5 name, and the counts, which a refusal has none of.
-#[derive(Drop)]
+#[derive(Clone, Copy)]
 struct BuildAnswer {
     refusal: u32,
     index: u32,

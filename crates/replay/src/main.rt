@@ -1,5 +1,7 @@
 // Holds our build and our searches to recorded answers: a case has a list that is built, or tables as they are lent, and texts that are
 // searched on them. Standard input is the sample, whose head tells its notation; what agrees is counted, and what differs is told.
+#![tactic(auto)]
+
 mod built;
 mod given;
 mod numbers;
@@ -12,6 +14,7 @@ use built::compare_built;
 use given::compare_given;
 use numbers::{ENDED, NUMBERS, PART, Reading, WHOLE, read_case};
 use run::{Run, differ, fail, number, pass, print_number, say};
+use std::io;
 use std::num::wrapping_add_u32;
 
 // What a case begins with: a list that is built, with its cells recorded or not, or tables that are searched as they are.
@@ -31,20 +34,21 @@ fn compare_case(numbers: &[u32], run: Run) -> Run {
 }
 
 // A case that cannot be read, or that has more numbers than were asked for, is a difference like any other.
-fn run_case(numbers: &[u32; NUMBERS], run: Run) -> Run {
+fn run_case(numbers: &[u32; NUMBERS], run: Run) -> io::Result<Run> {
     let compared = compare_case(numbers, run);
+    compared.told?;
     if compared.broken || compared.place != compared.end {
-        print_number(b"case ", compared.case as u64);
-        say(b" cannot be read\n");
-        return differ(compared);
+        print_number(compared.out, b"case ", compared.case as u64)?;
+        say(compared.out, b" cannot be read\n")?;
+        return Ok(differ(compared));
     }
-    compared
+    Ok(compared)
 }
 
 // The next case, or what is left of the input where it ends with a case that is not whole.
-fn run_read(numbers: &[u32; NUMBERS], run: Run, reading: Reading) -> Run {
+fn run_read(numbers: &[u32; NUMBERS], run: Run, reading: Reading) -> io::Result<Run> {
     if reading.within == ENDED && reading.count == 0 {
-        return run;
+        return Ok(run);
     }
     let mut next = run;
     next.case = wrapping_add_u32(run.case, 1);
@@ -54,17 +58,18 @@ fn run_read(numbers: &[u32; NUMBERS], run: Run, reading: Reading) -> Run {
     run_case(numbers, next)
 }
 
-fn report(run: Run) {
-    print_number(b"", run.case as u64);
-    print_number(b" cases, ", run.agreed as u64);
-    say(b" answers agree\n");
+fn report(run: Run) -> io::Result<()> {
+    print_number(run.out, b"", run.case as u64)?;
+    print_number(run.out, b" cases, ", run.agreed as u64)?;
+    say(run.out, b" answers agree\n")?;
     if run.differing != 0 {
-        print_number(b"", run.differing as u64);
-        say(b" answers differ\n");
+        print_number(run.out, b"", run.differing as u64)?;
+        say(run.out, b" answers differ\n")?;
     }
+    Ok(())
 }
 
-fn main() {
+fn main(rt: HostRuntime) -> io::Result<()> {
     let mut numbers = [0u32; NUMBERS];
     let mut room = [0u8; PART];
     let mut reading = Reading {
@@ -74,6 +79,8 @@ fn main() {
         filled: 0,
     };
     let mut run = Run {
+        out: rt.stdout(),
+        told: Ok(()),
         case: 0,
         place: 0,
         end: 0,
@@ -84,9 +91,9 @@ fn main() {
     };
     let mut turns = u64::MAX;
     while turns > 0 && reading.within == WHOLE {
-        reading = read_case(&mut numbers, &mut room, reading);
-        run = run_read(&numbers, run, reading);
+        reading = read_case(rt.stdin(), &mut numbers, &mut room, reading)?;
+        run = run_read(&numbers, run, reading)?;
         turns -= 1;
     }
-    report(run);
+    report(run)
 }

@@ -1,4 +1,8 @@
 // The numbers of standard input, a case at a time. Blanks, line ends and remarks part them and count for nothing; a semicolon ends a case.
+ghost use Rattle.std.specs.Prelude.{◌≤◌, length, IfOk};
+
+use std::io;
+use std::io::{Read, Stdin};
 
 // The room of a case.
 pub(crate) const NUMBERS: usize = 100000;
@@ -46,7 +50,7 @@ fn after(within: u64, byte: u8) -> u64 {
 }
 
 // What reading has come to: what it stands in, how many numbers the case has so far, and the next byte of the part at hand.
-#[derive(Drop)]
+#[derive(Clone, Copy)]
 pub(crate) struct Reading {
     pub within: u64,
     pub count: usize,
@@ -71,40 +75,62 @@ fn step(numbers: &mut [u32; NUMBERS], from: Reading, within: u64) -> Reading {
     at
 }
 
+// Reads until the part is full or the input ends, and answers how many bytes it put there.
+fn read_full(input: Stdin, part: &mut [u8]) -> io::Result<usize>
+    ensures { IfOk result (λ size. size ≤ length part.new) }
+{
+    let mut from = input;
+    let mut done = 0;
+    while done < part.len() {
+        let size = from.read(&mut part[done..])?;
+        if size == 0 {
+            break;
+        }
+        done += size;
+    }
+    Ok(done)
+}
+
 // The next byte, or the next part if there is none left.
-fn read_on(numbers: &mut [u32; NUMBERS], part: &mut [u8; PART], from: Reading) -> Reading {
+fn read_on(
+    input: Stdin,
+    numbers: &mut [u32; NUMBERS],
+    part: &mut [u8; PART],
+    from: Reading,
+) -> io::Result<Reading> {
     let next = from.next;
     if next < from.filled {
         if next < PART {
             let within = after(from.within, part[next]);
             let mut at = from;
             at.next = next + 1;
-            return step(numbers, at, within);
+            return Ok(step(numbers, at, within));
         }
     }
-    let filled = io::read_full(0, part);
+    let filled = read_full(input, part)?;
     if filled == 0 {
-        return step(numbers, from, ENDED);
+        return Ok(step(numbers, from, ENDED));
     }
     let mut at = from;
     at.next = 0;
     at.filled = filled;
-    at
+    Ok(at)
 }
 
 // A proved loop has to end, and nothing says that an input does. So the bytes are counted down, from a number that no run uses up.
 pub(crate) fn read_case(
+    input: Stdin,
     numbers: &mut [u32; NUMBERS],
     part: &mut [u8; PART],
     from: Reading,
-) -> Reading {
+) -> io::Result<Reading> {
     let mut at = from;
     at.within = BLANKS;
     at.count = 0;
     let mut turns = u64::MAX;
     while turns > 0 && at.within < WHOLE {
-        at = read_on(numbers, part, at);
+        at = read_on(input, numbers, part, at)?;
         turns -= 1;
     }
-    at
+    Ok(at)
 }

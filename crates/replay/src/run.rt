@@ -1,9 +1,14 @@
 // What a comparison has come to: the case at hand, the place of its next number, and how many answers agree and how many differ. Each
 // function takes it and hands it back. Once a case is broken nothing of it is judged, so that no caller need ask; a loop asks, so as to end.
+use std::io;
+use std::io::Stdout;
 use std::num::wrapping_add_u32;
 
-#[derive(Drop)]
+#[derive(Clone, Copy)]
 pub(crate) struct Run {
+    // Where a difference is told, and whether it could be.
+    pub out: Stdout,
+    pub told: io::Result<()>,
     // Cases are counted from 1.
     pub case: u32,
     pub place: usize,
@@ -45,13 +50,13 @@ pub(crate) fn pass(run: Run, count: usize) -> Run {
     fail(run)
 }
 
-pub(crate) fn say(text: &[u8]) {
-    io::write_all(1, text);
+pub(crate) fn say(out: Stdout, text: &[u8]) -> io::Result<()> {
+    out.write_all(text)
 }
 
-pub(crate) fn print_number(text: &[u8], n: u64) {
-    say(text);
-    io::print_decimal(1, n);
+pub(crate) fn print_number(out: Stdout, text: &[u8], n: u64) -> io::Result<()> {
+    say(out, text)?;
+    out.print(n)
 }
 
 // Counts a difference. Only the first of a case is told, since others may be its echo.
@@ -62,15 +67,16 @@ pub(crate) fn differ(run: Run) -> Run {
     next
 }
 
-fn tell(run: Run, what: &[u8], index: usize, due: u64, here: u64) {
-    print_number(b"case ", run.case as u64);
-    print_number(b", before number ", run.place as u64);
-    say(b": ");
-    say(what);
-    print_number(b" ", index as u64);
-    print_number(b": recorded ", due);
-    print_number(b", here ", here);
-    say(b"\n");
+fn tell(run: Run, what: &[u8], index: usize, due: u64, here: u64) -> io::Result<()> {
+    let out = run.out;
+    print_number(out, b"case ", run.case as u64)?;
+    print_number(out, b", before number ", run.place as u64)?;
+    say(out, b": ")?;
+    say(out, what)?;
+    print_number(out, b" ", index as u64)?;
+    print_number(out, b": recorded ", due)?;
+    print_number(out, b", here ", here)?;
+    say(out, b"\n")
 }
 
 // Holds what is here to what is recorded. The index says which of several it is.
@@ -83,8 +89,9 @@ pub(crate) fn judge(run: Run, what: &[u8], index: usize, due: u64, here: u64) ->
         next.agreed = wrapping_add_u32(run.agreed, 1);
         return next;
     }
+    let mut next = run;
     if run.last_told != run.case {
-        tell(run, what, index, due, here);
+        next.told = tell(run, what, index, due, here);
     }
-    differ(run)
+    differ(next)
 }

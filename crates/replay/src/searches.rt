@@ -21,7 +21,7 @@ const MATCH: u32 = 1;
 const END: u32 = 2;
 
 // An answer in numbers. The match is 0 where there is none.
-#[derive(Drop)]
+#[derive(Clone, Copy)]
 struct SearchAnswer {
     tag: u32,
     start: u64,

@@ -6,7 +6,7 @@ use std::num::wrapping_add_usize;
 
 // How long it is, how many numbers of it are told, and where these begin. Past them come zeros, or, if `back` is not 0, the last so many
 // told ones again and again.
-#[derive(Drop)]
+#[derive(Clone, Copy)]
 pub(crate) struct Sequence {
     pub length: usize,
     pub told: usize,
@@ -43,7 +43,7 @@ pub(crate) fn past(run: Run, from: Sequence) -> Run {
 }
 
 // What is read, and how much of the table it fills.
-#[derive(Drop)]
+#[derive(Clone, Copy)]
 pub(crate) struct Filled {
     pub run: Run,
     pub length: usize,

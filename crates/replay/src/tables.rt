@@ -89,7 +89,7 @@ pub(crate) fn compare_bytes(
 }
 
 // How much is lent of each table, in the order of a build's parameters.
-#[derive(Drop)]
+#[derive(Clone, Copy)]
 pub(crate) struct Lent {
     pub trie: usize,
     pub owns: usize,
