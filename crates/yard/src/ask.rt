@@ -1,10 +1,11 @@
 // The words of the command line.
 use desk::text::put;
 use desk::words::{Stand, Wish, end_words, first_wish, goes_on, standing, take_word};
+use std::env::{Env, FillError};
 use telling::lines::NAME;
 
 // A wish, the lengths of the names that came with it, and the last word that was taken.
-#[derive(Drop)]
+#[derive(Clone, Copy)]
 pub(crate) struct Asked {
     pub wish: Wish,
     pub list_size: usize,
@@ -51,37 +52,46 @@ fn keep_name(
     }
 }
 
-fn take_next(from: Asked, list: &mut [u8; NAME], sheet: &mut [u8; NAME], i: usize) -> Asked {
+// What is asked after word i, if there is such a word.
+fn take_next(
+    rt: &HostRuntime,
+    from: Asked,
+    list: &mut [u8; NAME],
+    sheet: &mut [u8; NAME],
+    i: usize,
+) -> Option<Asked> {
     let mut word = [0u8; NAME];
-    let size = os::arg(i, &mut word);
     let before = from.wish;
-    if os::errno() != 0 {
-        return Asked {
+    match rt.arg(i, &mut word) {
+        Ok(size) => {
+            let wish = take_word(before, &word[..size]);
+            Some(keep_name(from, wish, &word[..size], list, sheet, i))
+        }
+        Err(FillError::TooLong) => Some(Asked {
             wish: standing(before, Stand::LongWord),
             list_size: 0,
             sheet_size: 0,
             word: i,
-        };
+        }),
+        Err(FillError::NotPresent) => None,
     }
-    let wish = take_word(before, &word[..size]);
-    keep_name(from, wish, &word[..size], list, sheet, i)
 }
 
-pub(crate) fn ask(list: &mut [u8; NAME], sheet: &mut [u8; NAME]) -> Asked {
+pub(crate) fn ask(rt: &HostRuntime, list: &mut [u8; NAME], sheet: &mut [u8; NAME]) -> Asked {
     let mut asked = Asked {
         wish: first_wish(),
         list_size: 0,
         sheet_size: 0,
         word: 0,
     };
-    let count = os::arg_count();
-    let mut i = 1;
-    while i < count {
-        asked = take_next(asked, list, sheet, i);
+    for i in 1..usize::MAX {
+        let Some(next) = take_next(rt, asked, list, sheet, i) else {
+            break;
+        };
+        asked = next;
         if !goes_on(asked.wish) {
             return asked;
         }
-        i += 1;
     }
     let wish = end_words(asked.wish);
     Asked {

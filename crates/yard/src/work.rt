@@ -7,6 +7,7 @@ use build::Built;
 use desk::codes::{Codes, read_codes};
 use desk::words::Way;
 use list::limits::{MOST_BYTES, MOST_LISTED, MOST_TEXT};
+use std::io;
 use table::Depth;
 use telling::lines::NAME;
 use telling::refuse::{tell_cut, tell_failed, tell_file, tell_line};
@@ -35,6 +36,7 @@ fn kind_of(way: Way) -> u32 {
 
 // The tables are made here, so that no other function has to lend them on.
 fn build_and_tell(
+    rt: &HostRuntime,
     way: Way,
     numbers: bool,
     list_name: &[u8],
@@ -44,7 +46,7 @@ fn build_and_tell(
     values: &[u32],
     marks: &[u8],
     sheet: &[u8],
-) {
+) -> io::Result<()> {
     let mut trie = [[0u32; 5]; STATES];
     let mut owns = [[0u32; 2]; OUTPUTS];
     let mut notes = [[0u32; 6]; STATES];
@@ -72,17 +74,17 @@ fn build_and_tell(
         &mut outs,
     );
     let Built::Made(counts) = built else {
-        tell_built(list_name, built);
-        return;
+        return tell_built(rt, list_name, built);
     };
     tell_all(
-        way, numbers, sheet_name, bytes, ends, marks, &base, &link, &output, &check, &depth, &outs,
-        counts, sheet,
-    );
+        rt, way, numbers, sheet_name, bytes, ends, marks, &base, &link, &output, &check, &depth,
+        &outs, counts, sheet,
+    )
 }
 
 // The rows that were read are the first of the tables.
 fn build_rows(
+    rt: &HostRuntime,
     way: Way,
     numbers: bool,
     list_name: &[u8],
@@ -94,12 +96,13 @@ fn build_rows(
     count: usize,
     end: usize,
     sheet: &[u8],
-) {
+) -> io::Result<()> {
     if end <= bytes.len() {
         if count <= ends.len() {
             if count <= values.len() {
                 if count <= marks.len() {
-                    build_and_tell(
+                    return build_and_tell(
+                        rt,
                         way,
                         numbers,
                         list_name,
@@ -114,9 +117,18 @@ fn build_rows(
             }
         }
     }
+    Ok(())
 }
 
-fn work(way: Way, numbers: bool, list_name: &[u8], sheet_name: &[u8], list: &[u8], sheet: &[u8])
+fn work(
+    rt: &HostRuntime,
+    way: Way,
+    numbers: bool,
+    list_name: &[u8],
+    sheet_name: &[u8],
+    list: &[u8],
+    sheet: &[u8],
+) -> io::Result<()>
     requires { length list.now ≤ 131072 }
 {
     let mut bytes = [0u8; LIST];
@@ -125,19 +137,27 @@ fn work(way: Way, numbers: bool, list_name: &[u8], sheet_name: &[u8], list: &[u8
     let mut marks = [0u8; LISTED];
     match read_codes(list, &mut bytes, &mut ends, &mut values, &mut marks) {
         Codes::Read(count, end) => build_rows(
-            way, numbers, list_name, sheet_name, &bytes, &ends, &values, &marks, count, end, sheet,
+            rt, way, numbers, list_name, sheet_name, &bytes, &ends, &values, &marks, count, end,
+            sheet,
         ),
         Codes::BadValue(k) => tell_line(
+            rt,
             list_name,
             k as u64,
             b"the value before the TAB is not a number from 0 to 4294967295",
         ),
-        Codes::TooMany => tell_line(list_name, LISTED as u64, b"refusal 3: more than 1024 lines"),
+        Codes::TooMany => tell_line(
+            rt,
+            list_name,
+            LISTED as u64,
+            b"refusal 3: more than 1024 lines",
+        ),
     }
 }
 
 // The sheet is the first bytes of what was lent.
 fn work_part(
+    rt: &HostRuntime,
     way: Way,
     numbers: bool,
     list_name: &[u8],
@@ -145,15 +165,25 @@ fn work_part(
     list: &[u8],
     sheet: &[u8],
     size: usize,
-)
+) -> io::Result<()>
     requires { length list.now ≤ 131072 }
 {
     if size <= sheet.len() {
-        work(way, numbers, list_name, sheet_name, list, &sheet[0..size]);
+        return work(
+            rt,
+            way,
+            numbers,
+            list_name,
+            sheet_name,
+            list,
+            &sheet[0..size],
+        );
     }
+    Ok(())
 }
 
 fn work_on(
+    rt: &HostRuntime,
     way: Way,
     numbers: bool,
     list_name: &[u8],
@@ -161,85 +191,106 @@ fn work_on(
     list: &[u8],
     sheet: &[u8; SHEET],
     size: usize,
-)
+) -> io::Result<()>
     requires { length list.now ≤ 131072 }
 {
-    work_part(way, numbers, list_name, sheet_name, list, sheet, size);
+    work_part(rt, way, numbers, list_name, sheet_name, list, sheet, size)
 }
 
-fn read_sheet(way: Way, numbers: bool, list_name: &[u8], sheet_name: &[u8], list: &[u8])
+fn read_sheet(
+    rt: &HostRuntime,
+    way: Way,
+    numbers: bool,
+    list_name: &[u8],
+    sheet_name: &[u8],
+    list: &[u8],
+) -> io::Result<()>
     requires { length list.now ≤ 131072 }
 {
     let mut sheet = [0u8; SHEET];
-    match read_file(sheet_name, &mut sheet) {
-        File::Read(size) => work_on(way, numbers, list_name, sheet_name, list, &sheet, size),
+    match read_file(rt, sheet_name, &mut sheet) {
+        File::Read(size) => work_on(rt, way, numbers, list_name, sheet_name, list, &sheet, size),
         // The search refuses it, after the refusals of the list.
-        File::Full => work_on(way, numbers, list_name, sheet_name, list, &sheet, SHEET),
-        File::Failed => tell_failed(sheet_name),
-        File::Cut => tell_cut(sheet_name),
+        File::Full => work_on(rt, way, numbers, list_name, sheet_name, list, &sheet, SHEET),
+        File::Failed(why) => tell_failed(rt, sheet_name, why),
+        File::NotText(why) => tell_failed(rt, sheet_name, why),
+        File::Cut => tell_cut(rt, sheet_name),
     }
 }
 
 // The list is the first bytes of what was lent.
 fn list_part(
+    rt: &HostRuntime,
     way: Way,
     numbers: bool,
     list_name: &[u8],
     sheet_name: &[u8],
     list: &[u8],
     size: usize,
-) {
+) -> io::Result<()> {
     if size <= list.len() {
         if size <= LIST {
-            read_sheet(way, numbers, list_name, sheet_name, &list[0..size]);
+            return read_sheet(rt, way, numbers, list_name, sheet_name, &list[0..size]);
         }
     }
+    Ok(())
 }
 
 fn with_list(
+    rt: &HostRuntime,
     way: Way,
     numbers: bool,
     list_name: &[u8],
     sheet_name: &[u8],
     list: &[u8; LIST],
     size: usize,
-) {
-    list_part(way, numbers, list_name, sheet_name, list, size);
+) -> io::Result<()> {
+    list_part(rt, way, numbers, list_name, sheet_name, list, size)
 }
 
-fn read_list(way: Way, numbers: bool, list_name: &[u8], sheet_name: &[u8]) {
+fn read_list(
+    rt: &HostRuntime,
+    way: Way,
+    numbers: bool,
+    list_name: &[u8],
+    sheet_name: &[u8],
+) -> io::Result<()> {
     let mut list = [0u8; LIST];
-    match read_file(list_name, &mut list) {
-        File::Read(size) => with_list(way, numbers, list_name, sheet_name, &list, size),
-        File::Full => tell_file(list_name, b"the list is longer than 131071 bytes"),
-        File::Failed => tell_failed(list_name),
-        File::Cut => tell_cut(list_name),
+    match read_file(rt, list_name, &mut list) {
+        File::Read(size) => with_list(rt, way, numbers, list_name, sheet_name, &list, size),
+        File::Full => tell_file(rt, list_name, b"the list is longer than 131071 bytes"),
+        File::Failed(why) => tell_failed(rt, list_name, why),
+        File::NotText(why) => tell_failed(rt, list_name, why),
+        File::Cut => tell_cut(rt, list_name),
     }
 }
 
 // The names are the first bytes of what was lent.
 fn run_names(
+    rt: &HostRuntime,
     way: Way,
     numbers: bool,
     list: &[u8],
     list_size: usize,
     sheet: &[u8],
     sheet_size: usize,
-) {
+) -> io::Result<()> {
     if list_size <= list.len() {
         if sheet_size <= sheet.len() {
-            read_list(way, numbers, &list[0..list_size], &sheet[0..sheet_size]);
+            return read_list(rt, way, numbers, &list[0..list_size], &sheet[0..sheet_size]);
         }
     }
+    Ok(())
 }
 
 pub(crate) fn run(
+    rt: &HostRuntime,
     way: Way,
     numbers: bool,
     list: &[u8; NAME],
     list_size: usize,
     sheet: &[u8; NAME],
     sheet_size: usize,
-) {
-    run_names(way, numbers, list, list_size, sheet, sheet_size);
+) -> io::Result<()> {
+    run_names(rt, way, numbers, list, list_size, sheet, sheet_size)
 }

@@ -1,0 +1,9 @@
+-- `yard::files::read_full` ends: each read fills some of the room.
+use Rattle.std.proofs.Common.{◌-◌, ◌≤◌, length}
+use Rattle.yard.proofs.files.read_full.Given as goal
+
+abbrev pub invariant-loop-done : goal.invariant-loop-done
+invariant-loop-done l = l.done ≤ length l.room
+
+abbrev pub decreases-loop-done : goal.decreases-loop-done
+decreases-loop-done l = length l.initial.room - l.done
