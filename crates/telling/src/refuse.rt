@@ -50,35 +50,48 @@ pub fn tell_fault(rt: &HostRuntime, stand: Stand, word: usize) -> io::Result<()>
     }
 }
 
-// Puts why something failed, without the number of the cause that std puts behind it.
-fn put_reason<D: Display + Drop>(line: &mut [u8; LINE], end: usize, why: D) -> usize {
-    let text = InlineText::<REASON>::of(why);
-    let words = text.as_str();
-    match words.rsplit_once(" (os error ") {
-        Some((reason, _)) => put(line, end, reason.as_bytes()),
-        None => put(line, end, words.as_bytes()),
-    }
-}
-
-// The line ends with why it failed.
-fn fail_line<D: Display + Drop>(
-    rt: &HostRuntime,
-    line: &mut [u8; LINE],
-    end: usize,
-    why: D,
-) -> io::Result<()> {
-    let parted = put(line, end, b": ");
-    let reasoned = put_reason(line, parted, why);
-    let ended = put(line, reasoned, b"\n");
-    write_line(&rt.stderr(), line, ended)
-}
-
 // Why a file cannot be had.
 pub fn tell_failed<D: Display + Drop>(rt: &HostRuntime, name: &[u8], why: D) -> io::Result<()> {
     let mut line = [0u8; LINE];
     let begun = put(&mut line, 0, b"yard: ");
     let named = put_shown(&mut line, begun, name);
-    fail_line(rt, &mut line, named, why)
+    fail_line(rt, &line, named, why)
+}
+
+// What failed, a colon, and why, without the number of the cause that std puts behind it.
+fn fail<D: Display + Drop>(rt: &HostRuntime, what: &[u8], why: D) -> io::Result<()> {
+    let text = InlineText::<REASON>::of(why);
+    let words = text.as_str();
+    let reason = match words.rsplit_once(" (os error ") {
+        Some((reason, _)) => reason,
+        None => words,
+    };
+    let errors = rt.stderr();
+    errors.write_all(what)?;
+    errors.write_all(b": ")?;
+    errors.write_all(reason.as_bytes())?;
+    errors.write_all(b"\n")
+}
+
+fn fail_part<D: Display + Drop>(
+    rt: &HostRuntime,
+    what: &[u8],
+    size: usize,
+    why: D,
+) -> io::Result<()> {
+    if size <= what.len() {
+        return fail(rt, &what[0..size], why);
+    }
+    Ok(())
+}
+
+fn fail_line<D: Display + Drop>(
+    rt: &HostRuntime,
+    line: &[u8; LINE],
+    size: usize,
+    why: D,
+) -> io::Result<()> {
+    fail_part(rt, line, size, why)
 }
 
 // About a whole file.
@@ -127,7 +140,5 @@ pub(crate) fn tell_refused(rt: &HostRuntime, name: &[u8], why: Refusal) -> io::R
 }
 
 pub fn tell_unwritten(rt: &HostRuntime, why: io::Error) -> io::Result<()> {
-    let mut line = [0u8; LINE];
-    let named = put(&mut line, 0, b"yard: standard output");
-    fail_line(rt, &mut line, named, why)
+    fail(rt, b"yard: standard output", why)
 }
