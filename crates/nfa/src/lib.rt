@@ -13,6 +13,7 @@ use list::limits::least;
 use trie::Grew;
 
 // Whether a kind drops patterns that can't be found.
+#[tactic(auto, using(crate::proofs::Accepted::drops_yes, crate::proofs::Accepted::drops_no))]
 fn drops(kind: u32) -> bool
     ensures { result ≡ drops_of (kind_of kind) }
 {

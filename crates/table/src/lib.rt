@@ -83,6 +83,7 @@ fn is_there(cells: u32, slots: usize, i: u32) -> bool
 }
 
 // The child of a state on a byte.
+#[tactic(auto, unfolding(crate::specs::Readers::probe_of))]
 pub fn probe(base: &[u32], check: &[u8], cells: u32, s: CellId, byte: u8) -> Found
     ensures { result ≡ probe_of base.now check.now cells s.0 byte }
 {
@@ -120,6 +121,7 @@ pub fn link(links: &[u32], depth: &[Depth], cells: u32, s: CellId) -> Linked
 }
 
 // Where the outputs of a state begin. Whether an output stands there is judged where it is read.
+#[tactic(auto, unfolding(crate::specs::Readers::place_of))]
 pub fn place(output: &[u32], cells: u32, s: CellId) -> Begins
     ensures { result ≡ place_of output.now cells s.0 }
 {
