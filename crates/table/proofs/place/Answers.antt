@@ -1,10 +1,7 @@
 -- `place` by its cases, in the order of the definition.
 use mathlib.Core.Path.{sym, ◌∙◌}
-use Rattle.paper.proofs.Tests.{eq_eqb, ne_eqb}
-use Rattle.table.specs.Readers.{place_of}
 use Rattle.table.proofs.Inside.{there_in}
 use Rattle.table.proofs.place.Goals as goal
 
 pub bounds-output-s : goal.bounds-output-s
 bounds-output-s c = there_in _ _ _ (sym c.is_there.ensures ∙ c.if-is_there.true)
-

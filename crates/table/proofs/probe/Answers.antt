@@ -4,8 +4,6 @@ use Prim.Native.Nat.{◌<◌}
 use native.Mathlib.Omega.{arith}
 use lib.Bits.{bit_xor}
 use lib.ListN.{length, get_or}
-use borrow.Author.Tests.{eq-eqb, ne_eqb}
-use Rattle.table.specs.Readers.{probe_of}
 use Rattle.table.proofs.Inside.{there_in}
 use Rattle.table.proofs.probe.Goals as goal
 
@@ -19,4 +17,3 @@ overflow_cast-t-then-is_there-2 c = let k = c.args in
 
 pub bounds-check-t : goal.bounds-check-t
 bounds-check-t c = there_in _ _ _ (sym c.is_there-then-is_there.ensures ∙ c.if-is_there-2.true)
-
