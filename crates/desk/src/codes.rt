@@ -8,14 +8,14 @@ use crate::rows::{Row, row_of};
 use crate::stretches::{bare_length, line_end};
 
 // A row, by where its code stands in the file.
-#[derive(Drop)]
+#[derive(Clone, Copy)]
 pub enum Line {
     // Mark, value, where the code begins and where it ends.
     Code(u8, u32, usize, usize),
     BadValue,
 }
 
-#[derive(Drop)]
+#[derive(Clone, Copy)]
 pub enum Codes {
     // How many rows there are, and where the bytes of their codes end.
     Read(usize, usize),

@@ -4,7 +4,7 @@ ghost use Rattle.desk.specs.Numbers.{is_digit, number_of, spelt};
 
 const MOST_VALUE: u64 = 4294967295;
 
-#[derive(Drop)]
+#[derive(Clone, Copy)]
 pub enum Spelled {
     Number(u32),
     // There are no bytes, one is no digit, or the number is too large.

@@ -11,13 +11,13 @@ pub const TABULATOR: u8 = 9;
 pub const HAZARD_MARK: u8 = 33;
 
 // What stands before a tabulator: mark and value.
-#[derive(Drop)]
+#[derive(Clone, Copy)]
 pub enum Head {
     Valued(u8, u32),
     Unclear,
 }
 
-#[derive(Drop)]
+#[derive(Clone, Copy)]
 pub enum Row {
     // Mark, value, and where in the line the code begins; it ends with the line.
     Code(u8, u32, usize),
