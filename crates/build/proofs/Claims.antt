@@ -182,9 +182,9 @@ module _ (kind : ℕ) (bytes ends values : List ℕ) (slots : Lent) where
   pub good_told : (counts : Counts) → outcome_of kind bytes ends values slots ≡ made counts → Sound kind bytes ends values × Suffices es slots
   unfolding told_of all_refusals refusals table_refusals any_holds
   good_told counts e =
-      let Quiet-all = silent (all_refusals kind bytes ends values slots) (sym told_is ∙ ap told_of e) in
+      let quiet_all = silent (all_refusals kind bytes ends values slots) (sym told_is ∙ ap told_of e) in
       let first = any_holds (refusals kind bytes ends values) in
-      let none = sym (any_append (refusals kind bytes ends values) (table_refusals es slots)) ∙ Quiet-all in
+      let none = sym (any_append (refusals kind bytes ends values) (table_refusals es slots)) ∙ quiet_all in
       let last = or_not_right first (any_holds (table_refusals es slots)) none in
       let six = ltb slots.states (state_count es) in
       let lent = ltb slots.cells (cell_count es) in

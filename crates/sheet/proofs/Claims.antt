@@ -63,6 +63,10 @@ pub record LeftByEnd (next : Search → Outcome) (x : Search) : Type 0 where
 abbrev going_on : (Search → Outcome) → ℕ → Match → Search → Load
 going_on next n m u = with_record (record_of m) (load_of next n u)
 
+-- an answer that is the end stops there
+stops_there : (u : Search) (on : Match → Search → Load) → on_answer (ends u) on ≡ stopping ended u
+stops_there u on = refl
+
 module _ (next : Search → Outcome) where
   within_by : (n : ℕ) (o : Outcome) → ((u : Search) → length (load_of next n u).records ≤ n) → length (on_answer o (going_on next n)).records ≤ suc n
   within_by n (gives m u) more = let h = more u in omega arith
@@ -98,7 +102,7 @@ module _ (next : Search → Outcome) where
 
   load_joined : (n k : ℕ) (v : Search) → (load_of next n v).stop ≡ full → load_of next (n + k) v ≡ after (load_of next n v).records (load_of next k (load_of next n v).value)
   unfolding load_of
-  load_joined zero k v e = let None-more : 0 + k ≡ k = omega arith in ap (λ (j : ℕ). load_of next j v) None-more
+  load_joined zero k v e = let none_more : 0 + k ≡ k = omega arith in ap (λ (j : ℕ). load_of next j v) none_more
   load_joined (suc n) k v e =
       let one_more : suc n + k ≡ suc (n + k) = omega arith in
       ap (λ (j : ℕ). load_of next j v) one_more ∙ joined_by n k (next v) (load_joined n k) e
@@ -150,7 +154,7 @@ module _ (w : Which) (T : Tables) (kind : ℕ) (text : List ℕ) (v : Search) wh
   sheet_joined : (n k : ℕ) → (sheet_of w T kind text n v).stop ≡ full
       → sheet_of w T kind text (n + suc k) v ≡ after (sheet_of w T kind text n v).records (sheet_of w T kind text (suc k) (sheet_of w T kind text n v).value)
   unfolding sheet_of
-  sheet_joined zero k e = let None-more : 0 + suc k ≡ suc k = omega arith in ap (λ (j : ℕ). sheet_of w T kind text j v) None-more
+  sheet_joined zero k e = let none_more : 0 + suc k ≡ suc k = omega arith in ap (λ (j : ℕ). sheet_of w T kind text j v) none_more
   sheet_joined (suc n) k e =
       let one_more : suc n + suc k ≡ suc (n + suc k) = omega arith in
       ap (λ (j : ℕ). sheet_of w T kind text j v) one_more ∙ sym (ap (λ (j : ℕ). load_of (next_of w T kind text) j v) one_more)
@@ -176,7 +180,7 @@ module _ (w : Which) (T : Tables) (kind : ℕ) (text : List ℕ) (v : Search) wh
   sheet_again (suc n) k e =
       let E = load_ended (next_of w T kind text) (suc n) v e in
       let x = (load_of (next_of w T kind text) (suc n) v).value in
-      ⊎_map (λ q. sheet_once k x (ends x) q) (λ q. sheet_once k x (refuses 11 x) q) ((search.claims w T kind text E.came).end_again x E.ended_there)
+      ⊎_map (λ q. sheet_once k x (ends x) q ∙ stops_there x (going_on (next_of w T kind text) k)) (λ q. sheet_once k x (refuses 11 x) q) ((search.claims w T kind text E.came).end_again x E.ended_there)
 
   pub claims : SheetClaims w T kind text v
   claims =
