@@ -81,35 +81,35 @@ spare_next k n =
 
 module _ (next : Search → Outcome) (moves : List ℕ → ℕ) (text : List ℕ) where
   -- an answer that says the end leaves nothing
-  at_end_lem : (o : Outcome) (n p : ℕ) (goOn : search.Match → Search → Load) → said o ≡ end → HasTaken moves text o
-      → Holds moves text (suc n) [] p (on_answer o goOn)
+  at_end_lem : (o : Outcome) (n p : ℕ) (go_on : search.Match → Search → Load) → said o ≡ end → HasTaken moves text o
+      → Holds moves text (suc n) [] p (on_answer o go_on)
   unfolding is_end
-  at_end_lem (ends u) n p goOn e C =
+  at_end_lem (ends u) n p go_on e C =
       record {
         records_are = refl;
         stops = rw (spare_all n);
         taken = rw (spare_all n) C.0;
         moved = rw (spare_all n) (C.1 ∙ sym (ap moves (take-length text)));
       }
-  at_end_lem (gives m u) n p goOn e C = absurd (omega (arith, ap is_end e))
-  at_end_lem (refuses k u) n p goOn e C = absurd C
+  at_end_lem (gives m u) n p go_on e C = absurd (omega (arith, ap is_end e))
+  at_end_lem (refuses k u) n p go_on e C = absurd C
 
   -- one that says a match puts it before what follows
-  at_match : (o : Outcome) (n p : ℕ) (m : Match ℕ) (l : List (Match ℕ)) (goOn : Search → Load) → said o ≡ match m → HasTaken moves text o
-      → ((u : Search) → u ≡ handed_back o → u.place ≡ m.end → u.moves ≡ moves (take m.end text) → Holds moves text n l m.end (goOn u))
-      → Holds moves text (suc n) (m ∷ l) p (on_answer o (λ m' u. with_record (record_of m') (goOn u)))
+  at_match : (o : Outcome) (n p : ℕ) (m : Match ℕ) (l : List (Match ℕ)) (go_on : Search → Load) → said o ≡ match m → HasTaken moves text o
+      → ((u : Search) → u ≡ handed_back o → u.place ≡ m.end → u.moves ≡ moves (take m.end text) → Holds moves text n l m.end (go_on u))
+      → Holds moves text (suc n) (m ∷ l) p (on_answer o (λ m' u. with_record (record_of m') (go_on u)))
   unfolding is_end row_of end_of
-  at_match (ends u) n p m l goOn e C more = absurd (omega (arith, ap is_end e))
-  at_match (gives m' u) n p m l goOn e C more =
+  at_match (ends u) n p m l go_on e C more = absurd (omega (arith, ap is_end e))
+  at_match (gives m' u) n p m l go_on e C more =
       let same : m'.end ≡ m.end = ap end_of e in
       let H = more u refl (C.0 ∙ same) (C.1 ∙ ap (λ (k : ℕ). moves (take k text)) same) in
       record {
-        records_are = ap (λ (s : Saying). row_of s ∷ (goOn u).records) e ∙ ap (λ (r : List (List ℕ)). record_in m ∷ r) H.records_are;
+        records_are = ap (λ (s : Saying). row_of s ∷ (go_on u).records) e ∙ ap (λ (r : List (List ℕ)). record_in m ∷ r) H.records_are;
         stops = rw (← spare_next (length l) n) H.stops;
         taken = rw (← spare_next (length l) n) H.taken;
         moved = rw (← spare_next (length l) n) H.moved;
       }
-  at_match (refuses k u) n p m l goOn e C more = absurd (omega (arith, ap is_end e))
+  at_match (refuses k u) n p m l go_on e C more = absurd (omega (arith, ap is_end e))
 
   -- so many sayings of these matches and then the end, each with its value, are a load of them
   loaded : (n : ℕ) (v : Search) (p : ℕ) (l : List (Match ℕ)) → v.place ≡ p → v.moves ≡ moves (take p text)

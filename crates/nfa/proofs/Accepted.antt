@@ -123,18 +123,18 @@ module _ {kind : ℕ} {bytes ends values : List ℕ} (S : Sound kind bytes ends 
   states_few =
       omega (arith, few, names_few alphabet most_bytes es short)
 
-  pub full : {drops : Bool} {slots : ℕ} (stateSlots : ℕ) → drops ≡ drops_of (kind_of kind) → slots ≡ counted stateSlots
-      → slots < length (names alphabet (accept_on drops [] (rows (patterns_of bytes ends)))) → stateSlots < length (names alphabet es)
-  full {drops} {slots} stateSlots e k h =
-      let over : counted stateSlots < length (names alphabet es)
-      = subst (λ (l : List Entry). counted stateSlots < length (names alphabet l)) (same_accepted drops e) (rw (← k) h) in
-      elim (dec_lt stateSlots 4294967295) [
-        | yes l ↦ omega (arith, over, smaller_first stateSlots 4294967295 l)
-        | no l ↦ absurd (omega (arith, over, smaller_second stateSlots 4294967295 (omega arith), states_few))
+  pub full : {drops : Bool} {slots : ℕ} (state_slots : ℕ) → drops ≡ drops_of (kind_of kind) → slots ≡ counted state_slots
+      → slots < length (names alphabet (accept_on drops [] (rows (patterns_of bytes ends)))) → state_slots < length (names alphabet es)
+  full {drops} {slots} state_slots e k h =
+      let over : counted state_slots < length (names alphabet es)
+      = subst (λ (l : List Entry). counted state_slots < length (names alphabet l)) (same_accepted drops e) (rw (← k) h) in
+      elim (dec_lt state_slots 4294967295) [
+        | yes l ↦ omega (arith, over, smaller_first state_slots 4294967295 l)
+        | no l ↦ absurd (omega (arith, over, smaller_second state_slots 4294967295 (omega arith), states_few))
       ]
 
-  pub ready : {trie : List (List ℕ)} {O : Owns} {states count room noteRoom : ℕ} → Bytes bytes → Made (slots_of trie) O states count room es
-      → states ≤ length trie → states ≤ noteRoom → Ready (kind_of kind) es trie noteRoom
+  pub ready : {trie : List (List ℕ)} {O : Owns} {states count room note_room : ℕ} → Bytes bytes → Made (slots_of trie) O states count room es
+      → states ≤ length trie → states ≤ note_room → Ready (kind_of kind) es trie note_room
   ready B m t n =
       record {
         trie = m.trie;

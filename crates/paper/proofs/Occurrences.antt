@@ -139,7 +139,7 @@ by_row_exact es t proper f = (
       to_each 0 (length t) f.start (λ s. starting_at es t s) (omega arith) (omega arith) ((starting_exact es t f.start f).1 (st, refl)),
 )
 
--- what byLength has at one start
+-- what by_length has at one start
 at_start : List Entry → List ℕ → ℕ → List Occurrence
 at_start es t s = each 0 (length t - s) (λ k. between es t s (length t - k))
 

@@ -39,9 +39,9 @@ with_record row l = record { records = row ∷ l.records; stop = l.stop; value =
 
 -- what an answer comes to, if a match goes on like this
 abbrev pub on_answer : Outcome → (Match → Search → Load) → Load
-on_answer (gives m u) goOn = goOn m u
-on_answer (ends u) goOn = stopping ended u
-on_answer (refuses n u) goOn = stopping (refused n) u
+on_answer (gives m u) go_on = go_on m u
+on_answer (ends u) go_on = stopping ended u
+on_answer (refuses n u) go_on = stopping (refused n) u
 
 -- the answers of a search in turn, from a value on, in so many slots; a full sheet asks for no further answer
 unfoldable pub load_of : (Search → Outcome) → ℕ → Search → Load

@@ -1,20 +1,20 @@
 -- `order_groups` pops a state, notes its group and pushes its children, until the stack is empty.
 use mathlib.Core.Path.{◌≡◌, refl, sym, ◌∙◌, subst}
 use mathlib.Core.List.{List}
-use Prim.Native.Nat.{ℕ, ◌-◌}
+use Prim.Native.Nat.{ℕ, ◌-◌, ◌<◌}
 use native.Mathlib.Omega.{arith}
 use borrow.Author.Rules.{rules}
 use lib.ListN.{length}
 use Rattle.zeros.specs.Rows.{field}
 use Rattle.paper.specs.Patterns.{Entry}
 use Rattle.trie.specs.Trie.{slots_of}
-use Rattle.groups.specs.Ordered.{with_group, Groupable}
+use Rattle.groups.specs.Ordered.{with_group, with_stacked, Groupable}
 use Rattle.groups.specs.Stack.{Pushable, Pushed}
 use Rattle.groups.proofs.Pushing.{stacked_keeps, stacked_here}
 use Rattle.groups.proofs.Ordering.{Topped, topped, groupable_for, begun, ended, height_room, count_room, state_named}
 use Rattle.groups.proofs.Ordering.{leaf, pushable, risen_room, grouped, still_falls, still_pops}
 use Rattle.groups.proofs.order_groups.Goals as goal
-use Rattle.groups.proofs.order_groups.Goals.{After-push_children-height, After-set_group, At-loop-height, In-loop-height, Then-first_child-ne0}
+use Rattle.groups.proofs.order_groups.Goals.{After-push_children-height, After-set_group, In-loop-height, Then-first_child-ne0}
 
 pub set_stacked-requires : goal.set_stacked-requires
 set_stacked-requires c = let G = c.requires.groupable in omega (arith, G.stands.trie.two, G.notes_room)
@@ -23,30 +23,20 @@ pub loop-height-init : goal.loop-height-init
 loop-height-init c = (refl, λ es G e. (_, begun G _ e))
 
 -- what the first write leaves
-lent : (c : goal.At-loop-height) → length c.set_stacked.new.notes ≡ length c.args.notes.now
-lent c = c.set_stacked.auto.notes
-
-rooted : (c : goal.At-loop-height) → field c.set_stacked.new.notes 0 4 ≡ 0
-rooted c =
-    let G = c.requires.groupable in
-    rw c.set_stacked.ensures (stacked_here c.args.notes.now 0 0 (omega (arith, G.stands.trie.two, G.notes_room)))
-
-rooted-In-loop-height : (c : goal.In-loop-height) → field c.set_stacked.new.notes 0 4 ≡ 0
-rooted-In-loop-height c =
-    let G = c.requires.groupable in
-    rw c.set_stacked.ensures (stacked_here c.args.notes.now 0 0 (omega (arith, G.stands.trie.two, G.notes_room)))
+rooted : (rows put : List (List ℕ)) → put ≡ with_stacked rows 0 0 → 0 < length rows → field put 0 4 ≡ 0
+rooted rows put e h = rw e (stacked_here rows 0 0 h)
 
 -- the state that is popped, for whatever patterns the trie is made of
 top : (c : goal.In-loop-height) (es : List Entry) → Groupable es c.args.trie.now (length c.set_stacked.new.notes)
     → Topped es c.set_stacked.new.notes c.loop-height.notes c.loop-height.height c.loop-height.count
-top c es G = let r = c.loop-height.invariant.1 es G (rooted-In-loop-height c) in topped r.0 r.1 c.loop-height-test.true
-
-lent-In-loop-height : (c : goal.In-loop-height) → length c.set_stacked.new.notes ≡ length c.args.notes.now
-lent-In-loop-height c = c.set_stacked.auto.notes
+top c es G =
+    let g = c.requires.groupable in
+    let r = c.loop-height.invariant.1 es G (rooted _ _ c.set_stacked.ensures (omega (arith, g.stands.trie.two, g.notes_room))) in
+    topped r.0 r.1 c.loop-height-test.true
 
 -- those that the caller showed
 shown : (c : goal.In-loop-height) → Groupable c.requires.es c.args.trie.now (length c.set_stacked.new.notes)
-shown c = groupable_for c.requires.groupable (lent-In-loop-height c)
+shown c = groupable_for c.requires.groupable c.set_stacked.auto.notes
 
 abbrev shown_top : (c : goal.In-loop-height)
     → Topped c.requires.es c.set_stacked.new.notes c.loop-height.notes c.loop-height.height c.loop-height.count
@@ -68,79 +58,52 @@ overflow_add-count c = let small = count_room (shown (goal.at.overflow_add-count
 some : (c : goal.Then-first_child-ne0) → (slots_of c.args.trie.now).first c.stacked-s.result.0 ≡ 0 → ⊥
 some c z = c.if-first_child-ne0.true (c.first_child.ensures ∙ z)
 
-rooted-After-set_group : (c : goal.After-set_group) → field c.set_stacked.new.notes 0 4 ≡ 0
-rooted-After-set_group c =
-    let G = c.requires.groupable in
-    rw c.set_stacked.ensures (stacked_here c.args.notes.now 0 0 (omega (arith, G.stands.trie.two, G.notes_room)))
-
-top-After-set_group : (c : goal.After-set_group) (es : List Entry) → Groupable es c.args.trie.now (length c.set_stacked.new.notes)
-    → Topped es c.set_stacked.new.notes c.loop-height.notes c.loop-height.height c.loop-height.count
-top-After-set_group c es G = let r = c.loop-height.invariant.1 es G (rooted-After-set_group c) in topped r.0 r.1 c.loop-height-test.true
-
-some-After-set_group : (c : goal.After-set_group) → (slots_of c.args.trie.now).first c.stacked-s.result.0 ≡ 0 → ⊥
-some-After-set_group c z = c.if-first_child-ne0.true (c.first_child.ensures ∙ z)
-
 -- the state whose group was noted has room for its children
-ready : (c : goal.After-set_group) (es : List Entry) (G : Groupable es c.args.trie.now (length c.set_stacked.new.notes))
-    → let P = top-After-set_group c es G in
-    Pushable es c.args.trie.now c.set_group.new.notes c.stacked-s.result.0 (c.loop-height.height - 1) P.state P.below
-ready c es G =
-    let P = top-After-set_group c es G in
+ready : (c : goal.After-set_group) {es : List Entry} → Groupable es c.args.trie.now (length c.set_stacked.new.notes)
+    → (P : Topped es c.set_stacked.new.notes c.loop-height.notes c.loop-height.height c.loop-height.count)
+    → ((slots_of c.args.trie.now).first c.stacked-s.result.0 ≡ 0 → ⊥)
+    → Pushable es c.args.trie.now c.set_group.new.notes c.stacked-s.result.0 (c.loop-height.height - 1) P.state P.below
+ready c {es = es} G P child =
     subst (λ (notes : List (List ℕ)). Pushable es c.args.trie.now notes c.stacked-s.result.0 (c.loop-height.height - 1) P.state P.below)
-    (sym c.set_group.ensures) (pushable G P _ c.stacked-s.ensures c.loop-height.invariant.0 (some-After-set_group c) _)
+    (sym c.set_group.ensures) (pushable G P _ c.stacked-s.ensures c.loop-height.invariant.0 child _)
 
 pub push_children-height-requires : goal.push_children-height-requires
-unfolding top top-After-set_group rooted-In-loop-height rooted-After-set_group
 push_children-height-requires c =
+    let G = shown (goal.at.push_children-height-requires c).In-loop-height in
+    let P = shown_top (goal.at.push_children-height-requires c).In-loop-height in
     record {
       es = c.requires.es;
-      state = (shown_top (goal.at.push_children-height-requires c).In-loop-height).state;
-      stack = (shown_top (goal.at.push_children-height-requires c).In-loop-height).below;
-      pushable = ready (goal.at.push_children-height-requires c).After-set_group c.requires.es (shown (goal.at.push_children-height-requires c).In-loop-height);
+      state = P.state;
+      stack = P.below;
+      pushable = ready (goal.at.push_children-height-requires c).After-set_group G P (some (goal.at.push_children-height-requires c).Then-first_child-ne0);
     }
 
-rooted-After-push_children-height : (c : goal.After-push_children-height) → field c.set_stacked.new.notes 0 4 ≡ 0
-rooted-After-push_children-height c =
-    let G = c.requires.groupable in
-    rw c.set_stacked.ensures (stacked_here c.args.notes.now 0 0 (omega (arith, G.stands.trie.two, G.notes_room)))
-
-top-After-push_children-height : (c : goal.After-push_children-height) (es : List Entry) → Groupable es c.args.trie.now (length c.set_stacked.new.notes)
-    → Topped es c.set_stacked.new.notes c.loop-height.notes c.loop-height.height c.loop-height.count
-top-After-push_children-height c es G = let r = c.loop-height.invariant.1 es G (rooted-After-push_children-height c) in topped r.0 r.1 c.loop-height-test.true
-
-some-After-push_children-height : (c : goal.After-push_children-height) → (slots_of c.args.trie.now).first c.stacked-s.result.0 ≡ 0 → ⊥
-some-After-push_children-height c z = c.if-first_child-ne0.true (c.first_child.ensures ∙ z)
-
-ready-After-push_children-height : (c : goal.After-push_children-height) (es : List Entry) (G : Groupable es c.args.trie.now (length c.set_stacked.new.notes))
-    → let P = top-After-push_children-height c es G in
-    Pushable es c.args.trie.now c.set_group.new.notes c.stacked-s.result.0 (c.loop-height.height - 1) P.state P.below
-ready-After-push_children-height c es G =
-    let P = top-After-push_children-height c es G in
-    subst (λ (notes : List (List ℕ)). Pushable es c.args.trie.now notes c.stacked-s.result.0 (c.loop-height.height - 1) P.state P.below)
-    (sym c.set_group.ensures) (pushable G P _ c.stacked-s.ensures c.loop-height.invariant.0 (some-After-push_children-height c) _)
-
 -- they are on the stack
-pushed : (c : goal.After-push_children-height) (es : List Entry) (G : Groupable es c.args.trie.now (length c.set_stacked.new.notes))
-    → let P = top-After-push_children-height c es G in
-    Pushed es (with_group c.loop-height.notes c.loop-height.count c.stacked-s.result.0) c.push_children-height.new.notes c.push_children-height.result P.state P.below
-pushed c es G =
-    let P = top-After-push_children-height c es G in
+pushed : (c : goal.After-push_children-height) {es : List Entry}
+    → (P : Topped es c.set_stacked.new.notes c.loop-height.notes c.loop-height.height c.loop-height.count)
+    → Pushable es c.args.trie.now c.set_group.new.notes c.stacked-s.result.0 (c.loop-height.height - 1) P.state P.below
+    → Pushed es (with_group c.loop-height.notes c.loop-height.count c.stacked-s.result.0) c.push_children-height.new.notes c.push_children-height.result P.state P.below
+pushed c {es = es} P R =
     subst (λ (notes : List (List ℕ)). Pushed es notes c.push_children-height.new.notes c.push_children-height.result P.state P.below)
-    c.set_group.ensures (c.push_children-height.ensures es P.state P.below (ready-After-push_children-height c es G))
+    c.set_group.ensures (c.push_children-height.ensures es P.state P.below R)
 
 pub loop-height-smaller-then-first_child-ne0 : goal.loop-height-smaller-then-first_child-ne0
-unfolding top top-After-push_children-height rooted-In-loop-height rooted-After-push_children-height
 loop-height-smaller-then-first_child-ne0 c =
-    still_falls (length c.set_stacked.new.notes) c.loop-height.count c.loop-height.height _ (count_room (shown (goal.at.loop-height-smaller-then-first_child-ne0 c).In-loop-height) (shown_top (goal.at.loop-height-smaller-then-first_child-ne0 c).In-loop-height))
-    (risen_room (shown (goal.at.loop-height-smaller-then-first_child-ne0 c).In-loop-height) (shown_top (goal.at.loop-height-smaller-then-first_child-ne0 c).In-loop-height) _ c.stacked-s.ensures c.loop-height.invariant.0 (some (goal.at.loop-height-smaller-then-first_child-ne0 c).Then-first_child-ne0) _ _
-    (pushed (goal.at.loop-height-smaller-then-first_child-ne0 c).After-push_children-height c.requires.es (shown (goal.at.loop-height-smaller-then-first_child-ne0 c).In-loop-height)))
+    let G = shown (goal.at.loop-height-smaller-then-first_child-ne0 c).In-loop-height in
+    let P = shown_top (goal.at.loop-height-smaller-then-first_child-ne0 c).In-loop-height in
+    let child = some (goal.at.loop-height-smaller-then-first_child-ne0 c).Then-first_child-ne0 in
+    let R = ready (goal.at.loop-height-smaller-then-first_child-ne0 c).After-set_group G P child in
+    still_falls (length c.set_stacked.new.notes) c.loop-height.count c.loop-height.height _ (count_room G P)
+    (risen_room G P _ c.stacked-s.ensures c.loop-height.invariant.0 child _ _ (pushed (goal.at.loop-height-smaller-then-first_child-ne0 c).After-push_children-height P R))
 
 pub loop-height-preserved-then-first_child-ne0 : goal.loop-height-preserved-then-first_child-ne0
-unfolding top top-After-push_children-height rooted-In-loop-height rooted-After-push_children-height
 loop-height-preserved-then-first_child-ne0 c = (
   c.push_children-height.auto.notes ∙ c.set_group.auto.notes ∙ c.loop-height.invariant.0,
   λ es G e.
-      (_, grouped G (top (goal.at.loop-height-preserved-then-first_child-ne0 c).In-loop-height es G) _ c.stacked-s.ensures c.loop-height.invariant.0 (some (goal.at.loop-height-preserved-then-first_child-ne0 c).Then-first_child-ne0) _ _ (pushed (goal.at.loop-height-preserved-then-first_child-ne0 c).After-push_children-height es G)),
+      let P = top (goal.at.loop-height-preserved-then-first_child-ne0 c).In-loop-height es G in
+      let child = some (goal.at.loop-height-preserved-then-first_child-ne0 c).Then-first_child-ne0 in
+      let R = ready (goal.at.loop-height-preserved-then-first_child-ne0 c).After-set_group G P child in
+      (_, grouped G P _ c.stacked-s.ensures c.loop-height.invariant.0 child _ _ (pushed (goal.at.loop-height-preserved-then-first_child-ne0 c).After-push_children-height P R)),
 )
 
 pub loop-height-smaller : goal.loop-height-smaller
@@ -151,12 +114,12 @@ loop-height-preserved c =
     (c.loop-height.invariant.0, λ es G e. (_, leaf G (top (goal.at.loop-height-preserved c).In-loop-height es G) _ c.stacked-s.ensures (sym c.first_child.ensures ∙ c.if-first_child-ne0.false)))
 
 pub shape_of-notes : goal.shape_of-notes
-shape_of-notes c = c.loop-height.invariant.0 ∙ lent (goal.at.shape_of-notes c).At-loop-height
+shape_of-notes c = c.loop-height.invariant.0 ∙ c.set_stacked.auto.notes
 
 pub returns : goal.returns
 returns c = λ es G.
-    let H = groupable_for G (lent (goal.at.returns c).At-loop-height) in
-    let r = c.loop-height.invariant.1 es H (rooted (goal.at.returns c).At-loop-height) in
-    ended H c.args.notes.now
-    (λ k f h. rw c.set_stacked.ensures (stacked_keeps c.args.notes.now 0 0 (omega (arith, G.stands.trie.two, G.notes_room)) k f (omega arith)))
-    c.loop-height.invariant.0 r.0 r.1 c.loop-height-test.false
+    let H = groupable_for G c.set_stacked.auto.notes in
+    let two : 0 < length c.args.notes.now = omega (arith, G.stands.trie.two, G.notes_room) in
+    let r = c.loop-height.invariant.1 es H (rooted _ _ c.set_stacked.ensures two) in
+    ended H c.args.notes.now (λ k f h. rw c.set_stacked.ensures (stacked_keeps c.args.notes.now 0 0 two k f (omega arith))) c.loop-height.invariant.0 r.0 r.1
+    c.loop-height-test.false

@@ -1,7 +1,7 @@
 -- `link_all` takes each state in turn from the queue.
 use mathlib.Core.Path.{◌≡◌, refl, sym, ◌∙◌}
 use mathlib.Core.List.{List}
-use Prim.Native.Nat.{suc, ◌≤◌, ◌<◌, ◌+◌}
+use Prim.Native.Nat.{ℕ, suc, ◌≤◌, ◌<◌, ◌+◌}
 use native.Mathlib.Omega.{arith}
 use lib.ListN.{length}
 use Rattle.paper.specs.Patterns.{Entry, Kind}
@@ -13,7 +13,7 @@ use Rattle.links.specs.Queue.{Ready, Queued, Turn, Poised}
 use Rattle.links.proofs.Noting.{rooted}
 use Rattle.links.proofs.Rounds.{ready_for, poised_root, place_inside, turned, finished, not_root, grown, begins}
 use Rattle.links.proofs.link_all.Goals as goal
-use Rattle.links.proofs.link_all.Goals.{After-set_link, After-state_at-s, After-stop, At-loop-head}
+use Rattle.links.proofs.link_all.Goals.{After-state_at-s, After-stop, At-loop-head}
 
 pub top_children-tops-requires : goal.top_children-tops-requires
 top_children-tops-requires c =
@@ -27,16 +27,14 @@ pub set_link-requires : goal.set_link-requires
 set_link-requires c = let R = c.requires.ready in omega (arith, R.trie.two, R.notes_room, c.set_order.auto.notes)
 
 -- root's turn, for whatever patterns the trie is made of
-first_turn :
-    (c : goal.After-set_link) (kind : Kind) (es : List Entry) → Ready kind es c.args.trie.now (length c.args.notes.now)
-    → Poised kind es c.args.trie.now c.set_link.new.notes 0 0 1
-first_turn c kind es R =
-    let rows = c.args.notes.now in
+first_turn : {kind : Kind} {es : List Entry} {trie : List (List ℕ)} (rows ordered linked : List (List ℕ))
+    → linked ≡ with_link ordered 0 0 → ordered ≡ with_order rows 0 0 → Ready kind es trie (length rows) → Poised kind es trie linked 0 0 1
+first_turn rows ordered linked e d R =
     let r = rooted rows (omega (arith, R.trie.two, R.notes_room)) in
-    rw (c.set_link.ensures, c.set_order.ensures) (poised_root (with_link (with_order rows 0 0) 0 0) (ready_for R r.same) r.order r.link)
+    rw (e, d) (poised_root (with_link (with_order rows 0 0) 0 0) (ready_for R r.same) r.order r.link)
 
 pub link_tops-tail-requires : goal.link_tops-tail-requires
-link_tops-tail-requires c = let p = c.requires in record { kind = p.kind; es = p.es; poised = first_turn (goal.at.link_tops-tail-requires c).After-set_link p.kind p.es p.ready }
+link_tops-tail-requires c = let p = c.requires in record { kind = p.kind; es = p.es; poised = first_turn _ _ _ c.set_link.ensures c.set_order.ensures p.ready }
 
 pub loop-head-init : goal.loop-head-init
 loop-head-init c = (refl, omega arith, λ kind es R m T Q. (Q, begins R Q))
@@ -45,20 +43,12 @@ loop-head-init c = (refl, omega arith, λ kind es R m T Q. (Q, begins R Q))
 lent : (c : goal.At-loop-head) → length c.link_tops-tail.new.notes ≡ length c.args.notes.now
 lent c = c.link_tops-tail.auto.notes ∙ c.set_link.auto.notes ∙ c.set_order.auto.notes
 
-first_turn-At-loop-head :
-    (c : goal.At-loop-head) (kind : Kind) (es : List Entry) → Ready kind es c.args.trie.now (length c.args.notes.now)
-    → Poised kind es c.args.trie.now c.set_link.new.notes 0 0 1
-first_turn-At-loop-head c kind es R =
-    let rows = c.args.notes.now in
-    let r = rooted rows (omega (arith, R.trie.two, R.notes_room)) in
-    rw (c.set_link.ensures, c.set_order.ensures) (poised_root (with_link (with_order rows 0 0) 0 0) (ready_for R r.same) r.order r.link)
-
 -- where the loop stands, for whatever patterns the trie is made of
 stands :
     (c : goal.At-loop-head) (kind : Kind) (es : List Entry) → Ready kind es c.args.trie.now (length c.args.notes.now)
     → c.args.leftmost ≡ is_leftmost kind → Queued kind es (notes_of c.loop-head.notes) c.loop-head.head c.loop-head.tail × (c.loop-head.head ≤ c.loop-head.tail)
 stands c kind es R m =
-    c.loop-head.invariant.2 kind es (ready_for R (lent c)) m (c.top_children-tops.ensures _ R.trie) (c.link_tops-tail.ensures kind es (first_turn-At-loop-head c kind es R))
+    c.loop-head.invariant.2 kind es (ready_for R (lent c)) m (c.top_children-tops.ensures _ R.trie) (c.link_tops-tail.ensures kind es (first_turn _ _ _ c.set_link.ensures c.set_order.ensures R))
 
 now_ready : (c : goal.At-loop-head) {kind : Kind} {es : List Entry} → Ready kind es c.args.trie.now (length c.args.notes.now)
     → Ready kind es c.args.trie.now (length c.loop-head.notes)
@@ -69,95 +59,40 @@ state_at-s-requires c =
     let p = c.requires in
     place_inside c.loop-head.notes (now_ready (goal.at.state_at-s-requires c).At-loop-head p.ready) (stands (goal.at.state_at-s-requires c).At-loop-head p.kind p.es p.ready p.mode).0 c.loop-head-test.true
 
-lent-After-state_at-s : (c : goal.After-state_at-s) → length c.link_tops-tail.new.notes ≡ length c.args.notes.now
-lent-After-state_at-s c = c.link_tops-tail.auto.notes ∙ c.set_link.auto.notes ∙ c.set_order.auto.notes
-
-now_ready-After-state_at-s : (c : goal.After-state_at-s) {kind : Kind} {es : List Entry} → Ready kind es c.args.trie.now (length c.args.notes.now)
-    → Ready kind es c.args.trie.now (length c.loop-head.notes)
-now_ready-After-state_at-s c R = ready_for R (c.loop-head.invariant.0 ∙ lent-After-state_at-s c)
-
-first_turn-After-state_at-s :
-    (c : goal.After-state_at-s) (kind : Kind) (es : List Entry) → Ready kind es c.args.trie.now (length c.args.notes.now)
-    → Poised kind es c.args.trie.now c.set_link.new.notes 0 0 1
-first_turn-After-state_at-s c kind es R =
-    let rows = c.args.notes.now in
-    let r = rooted rows (omega (arith, R.trie.two, R.notes_room)) in
-    rw (c.set_link.ensures, c.set_order.ensures) (poised_root (with_link (with_order rows 0 0) 0 0) (ready_for R r.same) r.order r.link)
-
-stands-After-state_at-s :
-    (c : goal.After-state_at-s) (kind : Kind) (es : List Entry) → Ready kind es c.args.trie.now (length c.args.notes.now)
-    → c.args.leftmost ≡ is_leftmost kind → Queued kind es (notes_of c.loop-head.notes) c.loop-head.head c.loop-head.tail × (c.loop-head.head ≤ c.loop-head.tail)
-stands-After-state_at-s c kind es R m =
-    c.loop-head.invariant.2 kind es (ready_for R (lent-After-state_at-s c)) m (c.top_children-tops.ensures _ R.trie) (c.link_tops-tail.ensures kind es (first_turn-After-state_at-s c kind es R))
-
 -- the turn of the state that is taken from the queue
-turn :
-    (c : goal.After-state_at-s) (kind : Kind) (es : List Entry) → Ready kind es c.args.trie.now (length c.args.notes.now)
-    → c.args.leftmost ≡ is_leftmost kind
+turn : (c : goal.After-state_at-s) {kind : Kind} {es : List Entry} → Ready kind es c.args.trie.now (length c.loop-head.notes)
+    → Queued kind es (notes_of c.loop-head.notes) c.loop-head.head c.loop-head.tail
     → Turn kind es c.args.trie.now c.loop-head.notes c.state_at-s.result.0 c.loop-head.head c.loop-head.tail
-turn c kind es R m =
-    turned c.loop-head.notes (now_ready-After-state_at-s c R) (stands-After-state_at-s c kind es R m).0 c.loop-head-test.true _ c.state_at-s.ensures
+turn c R Q = turned c.loop-head.notes R Q c.loop-head-test.true _ c.state_at-s.ensures
 
 pub stop-requires : goal.stop-requires
 stop-requires c =
     let p = c.requires in
-    record { kind = p.kind; es = p.es; at = c.loop-head.head; turn = turn (goal.at.stop-requires c).After-state_at-s p.kind p.es p.ready p.mode; mode = p.mode }
-
-lent-After-stop : (c : goal.After-stop) → length c.link_tops-tail.new.notes ≡ length c.args.notes.now
-lent-After-stop c = c.link_tops-tail.auto.notes ∙ c.set_link.auto.notes ∙ c.set_order.auto.notes
-
-now_ready-After-stop : (c : goal.After-stop) {kind : Kind} {es : List Entry} → Ready kind es c.args.trie.now (length c.args.notes.now)
-    → Ready kind es c.args.trie.now (length c.loop-head.notes)
-now_ready-After-stop c R = ready_for R (c.loop-head.invariant.0 ∙ lent-After-stop c)
-
-first_turn-After-stop :
-    (c : goal.After-stop) (kind : Kind) (es : List Entry) → Ready kind es c.args.trie.now (length c.args.notes.now)
-    → Poised kind es c.args.trie.now c.set_link.new.notes 0 0 1
-first_turn-After-stop c kind es R =
-    let rows = c.args.notes.now in
-    let r = rooted rows (omega (arith, R.trie.two, R.notes_room)) in
-    rw (c.set_link.ensures, c.set_order.ensures) (poised_root (with_link (with_order rows 0 0) 0 0) (ready_for R r.same) r.order r.link)
-
-stands-After-stop :
-    (c : goal.After-stop) (kind : Kind) (es : List Entry) → Ready kind es c.args.trie.now (length c.args.notes.now)
-    → c.args.leftmost ≡ is_leftmost kind → Queued kind es (notes_of c.loop-head.notes) c.loop-head.head c.loop-head.tail × (c.loop-head.head ≤ c.loop-head.tail)
-stands-After-stop c kind es R m =
-    c.loop-head.invariant.2 kind es (ready_for R (lent-After-stop c)) m (c.top_children-tops.ensures _ R.trie) (c.link_tops-tail.ensures kind es (first_turn-After-stop c kind es R))
-
-turn-After-stop :
-    (c : goal.After-stop) (kind : Kind) (es : List Entry) → Ready kind es c.args.trie.now (length c.args.notes.now)
-    → c.args.leftmost ≡ is_leftmost kind
-    → Turn kind es c.args.trie.now c.loop-head.notes c.state_at-s.result.0 c.loop-head.head c.loop-head.tail
-turn-After-stop c kind es R m =
-    turned c.loop-head.notes (now_ready-After-stop c R) (stands-After-stop c kind es R m).0 c.loop-head-test.true _ c.state_at-s.ensures
+    let T = turn (goal.at.stop-requires c).After-state_at-s (now_ready (goal.at.stop-requires c).At-loop-head p.ready) (stands (goal.at.stop-requires c).At-loop-head p.kind p.es p.ready p.mode).0 in
+    record { kind = p.kind; es = p.es; at = c.loop-head.head; turn = T; mode = p.mode }
 
 -- its own link is noted
-ready_children :
-    (c : goal.After-stop) (kind : Kind) (es : List Entry) → Ready kind es c.args.trie.now (length c.args.notes.now)
-    → c.args.leftmost ≡ is_leftmost kind
+ready_children : (c : goal.After-stop) {kind : Kind} {es : List Entry}
+    → Turn kind es c.args.trie.now c.loop-head.notes c.state_at-s.result.0 c.loop-head.head c.loop-head.tail → c.args.leftmost ≡ is_leftmost kind
     → Poised kind es c.args.trie.now c.stop.new.notes c.state_at-s.result.0 c.loop-head.head c.loop-head.tail
-ready_children c kind es R m =
-    let T = turn-After-stop c kind es R m in
+ready_children c {kind = kind} {es = es} T m =
     let after = c.stop.ensures kind es c.loop-head.head T m in
     record {
       turn = record { ready = ready_for T.ready c.stop.auto.notes; queued = after.0; here = T.here; named = T.named };
       final = after.1;
     }
 
-inner : (c : goal.After-stop) (kind : Kind) (es : List Entry) → Ready kind es c.args.trie.now (length c.args.notes.now)
-    → c.args.leftmost ≡ is_leftmost kind → c.state_at-s.result.0 ≡ 0 → ⊥
-inner c kind es R m = let T = turn-After-stop c kind es R m in not_root _ T.ready T c.loop-head.invariant.1
-
 pub link_children-tail-requires : goal.link_children-tail-requires
 link_children-tail-requires c =
     let p = c.requires in
+    let T = turn (goal.at.link_children-tail-requires c).After-state_at-s (now_ready (goal.at.link_children-tail-requires c).At-loop-head p.ready) (stands (goal.at.link_children-tail-requires c).At-loop-head p.kind p.es p.ready p.mode).0 in
     record {
       kind = p.kind;
       es = p.es;
       at = c.loop-head.head;
-      poised = ready_children (goal.at.link_children-tail-requires c).After-stop p.kind p.es p.ready p.mode;
+      poised = ready_children (goal.at.link_children-tail-requires c).After-stop T p.mode;
       tops_are = c.top_children-tops.ensures _ p.ready.trie;
-      inner = inner (goal.at.link_children-tail-requires c).After-stop p.kind p.es p.ready p.mode;
+      inner = not_root _ T.ready T c.loop-head.invariant.1;
     }
 
 pub overflow_add-head : goal.overflow_add-head
@@ -178,8 +113,9 @@ loop-head-preserved c = (
   omega arith,
   λ kind es R m T Q.
       let R₀ = ready_for R (sym (lent (goal.at.loop-head-preserved c).At-loop-head)) in
-      let P = ready_children (goal.at.loop-head-preserved c).After-stop kind es R₀ m in
-      let next = c.link_children-tail.ensures kind es c.loop-head.head P T (inner (goal.at.loop-head-preserved c).After-stop kind es R₀ m) in
+      let taken = turn (goal.at.loop-head-preserved c).After-state_at-s (now_ready (goal.at.loop-head-preserved c).At-loop-head R₀) (stands (goal.at.loop-head-preserved c).At-loop-head kind es R₀ m).0 in
+      let P = ready_children (goal.at.loop-head-preserved c).After-stop taken m in
+      let next = c.link_children-tail.ensures kind es c.loop-head.head P T (not_root _ taken.ready taken c.loop-head.invariant.1) in
       let e : c.loop-head.head + 1 ≡ suc c.loop-head.head = omega arith in
       rw e (next, grown R P.turn.queued P.turn.here next),
 )

@@ -90,22 +90,14 @@ loop-f-preserved c = λ kind es room R n from small T C H₀.
     (onward R H nd small _ (c.child-g.ensures _ R.trie T (chain_inside R H nd)) (notes_of c.loop-t.notes) _ c.if-g-ne0.false c.if-f-eq0.false
     C c.link_of-f.ensures).0
 
-hunted-After-note_child-arg-1 :
-    (c : goal.After-note_child-arg-1) (kind : Kind) (es : List Entry) (s h : ℕ)
-    (G : Setting kind es c.args.trie.now c.args.notes.now c.args.tops.now s h c.args.tail c.link_of-above.result.0 c.first_child-t.result.0)
-    → HuntIn kind es c.args.trie.now (length c.args.notes.now) G.poised.turn.ready (length (get_or (ordered es) h [])) c.label-byte.result (link (machine kind es) (get_or (ordered es) h [])) c.loop-f.f.0
-hunted-After-note_child-arg-1 c kind es s h G =
-    let A = c.loop-t.invariant.1 kind es s h G in
-    c.loop-f.invariant kind es _ G.poised.turn.ready _ _ (rw c.label-byte.ensures (label_small G.poised A.1 c.loop-t-test.true)) G.tops_are (chained G.poised A.1) (setting_hunt G _)
-
 -- where the hunt has ended
 linked :
     (c : goal.After-note_child-arg-1) (kind : Kind) (es : List Entry) (s h : ℕ)
     (G : Setting kind es c.args.trie.now c.args.notes.now c.args.tops.now s h c.args.tail c.link_of-above.result.0 c.first_child-t.result.0)
+    → HuntIn kind es c.args.trie.now (length c.args.notes.now) G.poised.turn.ready (length (get_or (ordered es) h [])) c.label-byte.result (link (machine kind es) (get_or (ordered es) h [])) c.loop-f.f.0
     → Leads (names alphabet es) (hunts (machine kind es) (link (machine kind es) (get_or (ordered es) h [])) c.label-byte.result) c.if-f-eq1.link.0
-linked c kind es s h G =
+linked c kind es s h G H =
     let R = G.poised.turn.ready in
-    let H = hunted-After-note_child-arg-1 c kind es s h G in
     let small : c.label-byte.result < alphabet = rw c.label-byte.ensures (label_small G.poised (c.loop-t.invariant.1 kind es s h G).1 c.loop-t-test.true) in
     elim c.if-f-eq1.branch [
       | then-f-eq1 w ↦ rw w.link-is (at_dead R H w.if-f-eq1.true)
@@ -142,7 +134,7 @@ loop-t-preserved c = (
       rw c.next_sibling-t.ensures (
         _,
         more G.poised A.1 nz _ _ c.note_child.ensures
-            (child_link G.poised A.1 nz G.inner _ (rw (← c.label-byte.ensures) (linked (goal.at.loop-t-preserved c).After-note_child-arg-1 kind es s h G))),
+            (child_link G.poised A.1 nz G.inner _ (rw (← c.label-byte.ensures) (linked (goal.at.loop-t-preserved c).After-note_child-arg-1 kind es s h G (hunted (goal.at.loop-t-preserved c).At-loop-f kind es s h G)))),
       ),
 )
 

@@ -57,13 +57,13 @@ link_all-requires c =
     record {
       kind = kind_of a.kind;
       es = accepted_of a.kind a.bytes.now a.ends.now;
-      ready = ready c.requires {trie = c.add_all.new.trie} {noteRoom = length c.args.notes.now} (all_bytes_lem c) (grown c).0 (omega (arith, (grown c).1, (slots_fit (goal.at.link_all-requires c).After-count-slots).0, c.add_all.auto.trie)) (omega (arith, (grown c).1, (slots_fit (goal.at.link_all-requires c).After-count-slots).1));
+      ready = ready c.requires {trie = c.add_all.new.trie} {note_room = length c.args.notes.now} (all_bytes_lem c) (grown c).0 (omega (arith, (grown c).1, (slots_fit (goal.at.link_all-requires c).After-count-slots).0, c.add_all.auto.trie)) (omega (arith, (grown c).1, (slots_fit (goal.at.link_all-requires c).After-count-slots).1));
       mode = c.leftmost.ensures;
     }
 
 pub returns : goal.returns
 returns c =
-    let R = ready c.requires {trie = c.add_all.new.trie} {noteRoom = length c.args.notes.now} (all_bytes_lem (goal.at.returns c).After-leftmost) (grown (goal.at.returns c).After-leftmost).0 (omega (arith, (grown (goal.at.returns c).After-leftmost).1, (slots_fit (goal.at.returns c).After-count-slots).0, c.add_all.auto.trie)) (omega (arith, (grown (goal.at.returns c).After-leftmost).1, (slots_fit (goal.at.returns c).After-count-slots).1)) in
+    let R = ready c.requires {trie = c.add_all.new.trie} {note_room = length c.args.notes.now} (all_bytes_lem (goal.at.returns c).After-leftmost) (grown (goal.at.returns c).After-leftmost).0 (omega (arith, (grown (goal.at.returns c).After-leftmost).1, (slots_fit (goal.at.returns c).After-count-slots).0, c.add_all.auto.trie)) (omega (arith, (grown (goal.at.returns c).After-leftmost).1, (slots_fit (goal.at.returns c).After-count-slots).1)) in
     record {
       made = made_room (sym c.add_all.auto.owns) (grown (goal.at.returns c).After-leftmost).0;
       ready = ready_room (sym c.link_all.auto.notes) R;

@@ -13,7 +13,7 @@ use Rattle.outputs.proofs.Noting.{begun, begun_root, begun_dead, begun_placed, b
 use Rattle.outputs.proofs.Storing.{Storing, two_states, two_notes, states_count, storing, state_named, link_inside, stackable}
 use Rattle.outputs.proofs.Storing.{storing_more, storing_all}
 use Rattle.outputs.proofs.store_outputs.Goals as goal
-use Rattle.outputs.proofs.store_outputs.Goals.{After-notes-2-1, At-loop-i, In-loop-i}
+use Rattle.outputs.proofs.store_outputs.Goals.{At-loop-i}
 
 pub set_place-requires : goal.set_place-requires
 set_place-requires c = omega (arith, two_notes c.requires.tabled)
@@ -23,61 +23,23 @@ set_place-requires-2 c =
     omega (arith, c.set_place.auto.notes, two_notes c.requires.tabled)
 
 -- root and dead are noted when the loop begins
-entered : (c : goal.After-notes-2-1)
-    → let a = c.args in
-    c.set_place-2.new.notes ≡ begun a.notes.now
-entered c =
-    c.set_place-2.ensures ∙ ap (λ (n : List (List ℕ)). with_place n 1 0) c.set_place.ensures
+entered : (rows first both : List (List ℕ)) → both ≡ with_place first 1 0 → first ≡ with_place rows 0 0 → both ≡ begun rows
+entered rows first both e d = e ∙ ap (λ (n : List (List ℕ)). with_place n 1 0) d
 
-tabled : (c : goal.After-notes-2-1) {kind : Kind} {es : List Entry}
-    → let a = c.args in
-    Tabled kind es a.trie.now a.owns.now a.notes.now a.values.now (length a.outs.now) a.states
-    → Tabled kind es a.trie.now a.owns.now c.set_place-2.new.notes a.values.now (length a.outs.now) a.states
-tabled c T = rw (entered c) (begun_tabled _ (two_notes T) T)
-
-entered-At-loop-i : (c : goal.At-loop-i)
-    → let a = c.args in
-    c.set_place-2.new.notes ≡ begun a.notes.now
-entered-At-loop-i c =
-    c.set_place-2.ensures ∙ ap (λ (n : List (List ℕ)). with_place n 1 0) c.set_place.ensures
-
-tabled-At-loop-i : (c : goal.At-loop-i) {kind : Kind} {es : List Entry}
-    → let a = c.args in
-    Tabled kind es a.trie.now a.owns.now a.notes.now a.values.now (length a.outs.now) a.states
-    → Tabled kind es a.trie.now a.owns.now c.set_place-2.new.notes a.values.now (length a.outs.now) a.states
-tabled-At-loop-i c T = rw (entered-At-loop-i c) (begun_tabled _ (two_notes T) T)
+tabled : {kind : Kind} {es : List Entry} {trie owns rows both : List (List ℕ)} {values : List ℕ} {slots states : ℕ} → both ≡ begun rows
+    → Tabled kind es trie owns rows values slots states → Tabled kind es trie owns both values slots states
+tabled e T = rw e (begun_tabled _ (two_notes T) T)
 
 -- the loop, for the patterns that the caller showed
 known : (c : goal.At-loop-i)
     → let a = c.args in
     Tabled c.requires.kind c.requires.es a.trie.now a.owns.now c.set_place-2.new.notes a.values.now (length a.outs.now) a.states
-known c = tabled-At-loop-i c c.requires.tabled
+known c = tabled (entered _ _ _ c.set_place-2.ensures c.set_place.ensures) c.requires.tabled
 
 so_far : (c : goal.At-loop-i)
     → Storing c.requires.kind c.requires.es c.args.values.now c.set_place-2.new.notes c.args.outs.now
     c.loop-i.i c.loop-i.notes c.loop-i.outs c.loop-i.stored
 so_far c = c.loop-i.invariant.3 _ _ (known c)
-
-entered-In-loop-i : (c : goal.In-loop-i)
-    → let a = c.args in
-    c.set_place-2.new.notes ≡ begun a.notes.now
-entered-In-loop-i c =
-    c.set_place-2.ensures ∙ ap (λ (n : List (List ℕ)). with_place n 1 0) c.set_place.ensures
-
-tabled-In-loop-i : (c : goal.In-loop-i) {kind : Kind} {es : List Entry}
-    → let a = c.args in
-    Tabled kind es a.trie.now a.owns.now a.notes.now a.values.now (length a.outs.now) a.states
-    → Tabled kind es a.trie.now a.owns.now c.set_place-2.new.notes a.values.now (length a.outs.now) a.states
-tabled-In-loop-i c T = rw (entered-In-loop-i c) (begun_tabled _ (two_notes T) T)
-
-known-In-loop-i : (c : goal.In-loop-i)
-    → let a = c.args in
-    Tabled c.requires.kind c.requires.es a.trie.now a.owns.now c.set_place-2.new.notes a.values.now (length a.outs.now) a.states
-known-In-loop-i c = tabled-In-loop-i c c.requires.tabled
-
-in_order : (c : goal.In-loop-i)
-    → c.loop-i.i < length (ordered c.requires.es)
-in_order c = omega (arith, states_count (known-In-loop-i c), c.loop-i-test.true)
 
 -- the rows of notes are as many as were lent
 room : (c : goal.At-loop-i)
@@ -87,13 +49,12 @@ room c = omega (arith, (known c).note_room, c.loop-i.invariant.0)
 pub loop-i-init : goal.loop-i-init
 loop-i-init c =
     let a = c.args in
-    let T = c.requires.tabled in (
+    let T = c.requires.tabled in
+    let e = entered _ _ _ c.set_place-2.ensures c.set_place.ensures in (
       refl,
       refl,
       omega (arith, two_states T),
-      λ kind es U.
-          storing U _ (rw (entered c) (begun_root a.notes.now (two_notes T)))
-          (rw (entered c) (begun_dead a.notes.now (two_notes T))),
+      λ kind es U. storing U _ (rw e (begun_root a.notes.now (two_notes T))) (rw e (begun_dead a.notes.now (two_notes T))),
     )
 
 pub state_at-s-requires : goal.state_at-s-requires
@@ -103,7 +64,7 @@ pub store_state-stored-requires : goal.store_state-stored-requires
 store_state-stored-requires c =
     let T = known (goal.at.store_state-stored-requires c).At-loop-i in
     let Q = so_far (goal.at.store_state-stored-requires c).At-loop-i in
-    let h = in_order (goal.at.store_state-stored-requires c).In-loop-i in
+    let h : c.loop-i.i < length (ordered c.requires.es) = omega (arith, states_count T, c.loop-i-test.true) in
     record {
       stackable = rw (c.state_at-s.ensures, c.loop-i.invariant.1) (stackable T Q h);
       s_in_bounds = rw c.state_at-s.ensures (
@@ -128,6 +89,7 @@ loop-i-preserved c =
 
 pub returns : goal.returns
 returns c = λ kind es T.
-    let U = tabled (goal.at.returns c).After-notes-2-1 T in
+    let e = entered _ _ _ c.set_place-2.ensures c.set_place.ensures in
+    let U = tabled e T in
     let all : c.loop-i.i ≡ length (ordered es) = omega (arith, states_count U, c.loop-i-test.false, c.loop-i.invariant.2) in
-    begun_placed _ (two_notes T) (rw (← entered (goal.at.returns c).After-notes-2-1) (storing_all U refl all (c.loop-i.invariant.3 kind es U)))
+    begun_placed _ (two_notes T) (rw (← e) (storing_all U refl all (c.loop-i.invariant.3 kind es U)))

@@ -1,4 +1,4 @@
--- `place` by its cases, in the order of the definition.
+-- `place` reads the table only where it is told; its cases the check finds in the definition.
 use mathlib.Core.Path.{sym, ◌∙◌}
 use Rattle.table.proofs.Inside.{there_in}
 use Rattle.table.proofs.place.Goals as goal

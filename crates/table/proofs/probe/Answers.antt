@@ -1,4 +1,4 @@
--- `probe` by its cases, in the order of the definition.
+-- `probe` reads the tables only where it is told; its cases the check finds in the definition.
 use mathlib.Core.Path.{sym, ◌∙◌}
 use Prim.Native.Nat.{◌<◌}
 use native.Mathlib.Omega.{arith}

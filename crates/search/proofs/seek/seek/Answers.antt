@@ -11,12 +11,9 @@ use Rattle.search.proofs.seek.seek.Goals.{At-loop-row, In-On}
 shallow : (c : goal.At-loop-row) → Shallow (lent c.args.base.now c.args.link.now c.args.output.now c.args.check.now c.args.depth.now c.args.outs.now c.args.counts)
 shallow c = λ i. omega (arith, c.type_inv.depth i)
 
-shallow-In-On : (c : goal.In-On) → Shallow (lent c.args.base.now c.args.link.now c.args.output.now c.args.check.now c.args.depth.now c.args.outs.now c.args.counts)
-shallow-In-On c = λ i. omega (arith, c.type_inv.depth i)
-
 -- a step goes one byte on
-going : (c : goal.In-On) → Stepped c.loop-row.at c.in-On.next
-going c = stepped _ (lent c.args.base.now c.args.link.now c.args.output.now c.args.check.now c.args.depth.now c.args.outs.now c.args.counts) _ _ _ (shallow-In-On c) (sym (c.step.ensures c.args.outs.now c.args.counts.accepted) ∙ c.in-On.is)
+going : (c : goal.In-On) → Shallow (lent c.args.base.now c.args.link.now c.args.output.now c.args.check.now c.args.depth.now c.args.outs.now c.args.counts) → Stepped c.loop-row.at c.in-On.next
+going c low = stepped _ (lent c.args.base.now c.args.link.now c.args.output.now c.args.check.now c.args.depth.now c.args.outs.now c.args.counts) _ _ _ low (sym (c.step.ensures c.args.outs.now c.args.counts.accepted) ∙ c.in-On.is)
 
 pub loop-row-init : goal.loop-row-init
 loop-row-init c = record { same = refl; bounded = record { inside = c.requires.0; few = c.requires.2 } }
@@ -37,7 +34,7 @@ pub returns-in-Damage-step : goal.returns-in-Damage-step
 returns-in-Damage-step c = sought_stuck c.args.leftmost (lent c.args.base.now c.args.link.now c.args.output.now c.args.check.now c.args.depth.now c.args.outs.now c.args.counts) c.loop-row.invariant (sym c.output.ensures ∙ c.in-Nothing.is) c.if-text-at.false (sym (c.step.ensures c.args.outs.now c.args.counts.accepted) ∙ c.in-Damage-step.is)
 
 pub loop-row-smaller : goal.loop-row-smaller
-loop-row-smaller c = falls_short c.args.text.now c.loop-row.at c.in-On.next c.if-text-at.false (going c).onward
+loop-row-smaller c = falls_short c.args.text.now c.loop-row.at c.in-On.next c.if-text-at.false (going c (shallow (goal.at.loop-row-smaller c).At-loop-row)).onward
 
 pub loop-row-preserved : goal.loop-row-preserved
 loop-row-preserved c = sought_on c.args.leftmost (lent c.args.base.now c.args.link.now c.args.output.now c.args.check.now c.args.depth.now c.args.outs.now c.args.counts) c.loop-row.invariant _ (shallow (goal.at.loop-row-preserved c).At-loop-row) (sym c.output.ensures ∙ c.in-Nothing.is) c.if-text-at.false (sym (c.step.ensures c.args.outs.now c.args.counts.accepted) ∙ c.in-On.is)
