@@ -1,10 +1,10 @@
 -- How answers cross the boundary: as numbers, and what the caller's variables and tables then hold.
-use Rattle.std.specs.Prelude.{◌≡◌, List, [], ◌∷◌, ℕ, length}
+use Rattle.std.specs.Prelude.{◌≡◌, List, [], ◌∷◌, ℕ, length, Result}
 use Rattle.table.specs.declared.Counts.{Counts}
 use Rattle.search.specs.declared.Search.{Search}
 use Rattle.search.specs.Values.{cell, value_of}
 use Rattle.sheet.specs.Sheet.{Stop, full, ended, refused, Load, written}
-use Rattle.build.specs.declared.Built.{Built}
+use Rattle.build.specs.declared.Refusal.{Refusal}
 use Rattle.build.specs.Lot.{Lot}
 use Rattle.build.specs.Outcome as build
 use Rattle.build.specs.Outcome.{Outcome, made}
@@ -24,7 +24,7 @@ beside (build.refused t) = t.index ∷ 0 ∷ 0 ∷ 0 ∷ []
 
 -- what is promised of a build: the number and the four beside it are those of an answer that `build` promises, with every table as `build` leaves it
 pub record BuildPromise (kind : ℕ) (bytes ends values : List ℕ) (before after : Lot) (counts : List ℕ) (r : ℕ) : Type 0 where
-  pub built : Built
+  pub built : Result Counts Refusal
   pub promised : Promise kind bytes ends values before after built
   pub numbered : r ≡ number_of (build.answer built)
   pub beside_is : counts ≡ beside (build.answer built)

@@ -1,59 +1,54 @@
 // Inner: how answers cross the boundary to C: as numbers, in variables that the caller lends.
 #![tactic(auto)]
 
-ghost use Rattle.std.specs.Prelude.{◌≡◌};
+ghost use Rattle.std.specs.Prelude.{◌≡◌, length};
+ghost use Rattle.table.specs.Agrees.{lent};
 ghost use Rattle.search.specs.Values.{number};
-ghost use Rattle.sheet.specs.Sheet.{stop_of};
+ghost use Rattle.sheet.specs.Sheet.{sheet_of, stop_of};
 ghost use Rattle.build.specs.Outcome.{answer};
-ghost use Rattle.boundary.specs.Boundary.{number_of, beside, stop_number, counts_of, held_in};
+ghost use Rattle.boundary.specs.Boundary.{number_of, beside, stop_number, counts_of, held_in, SearchPromise};
 
-use build::Built;
-use search::{Refusal, Search};
-use sheet::{Filled, Stop};
-use table::{CellId, Counts};
+use search::{Search, Searching};
+use sheet::{Stop, fill};
+use table::{CellId, Counts, Tables};
 
-// The number of a build's answer.
-pub fn number_of(built: Built) -> u32
+// The number of a build's answer: 0 for a good one, else the refusal's. C wants numbers, and they stand here alone.
+pub fn number_of(built: Result<Counts, build::Refusal>) -> u32
     ensures { result ≡ number_of (answer built) }
 {
     match built {
-        Built::Made(_) => 0,
-        Built::BadKind => 1,
-        Built::BadEnds => 2,
-        Built::TooMany => 3,
-        Built::Empty(_) => 4,
-        Built::TooLong(_) => 5,
-        Built::FewStates => 6,
-        Built::FewCells => 7,
-        Built::FewOutputs => 8,
+        Ok(_) => 0,
+        Err(build::Refusal::BadKind) => 1,
+        Err(build::Refusal::BadEnds) => 2,
+        Err(build::Refusal::TooMany) => 3,
+        Err(build::Refusal::Empty(_)) => 4,
+        Err(build::Refusal::TooLong(_)) => 5,
+        Err(build::Refusal::FewStates) => 6,
+        Err(build::Refusal::FewCells) => 7,
+        Err(build::Refusal::FewOutputs) => 8,
     }
 }
 
 // The four numbers beside it.
-pub fn beside_of(built: Built) -> [u32; 4]
+pub fn beside_of(built: Result<Counts, build::Refusal>) -> [u32; 4]
     ensures { result ≡ beside (answer built) }
 {
     match built {
-        Built::Made(made) => [made.kind, made.accepted, made.states, made.cells],
-        Built::BadKind => [0; 4],
-        Built::BadEnds => [0; 4],
-        Built::TooMany => [0; 4],
-        Built::Empty(row) => [row, 0, 0, 0],
-        Built::TooLong(row) => [row, 0, 0, 0],
-        Built::FewStates => [0; 4],
-        Built::FewCells => [0; 4],
-        Built::FewOutputs => [0; 4],
+        Ok(made) => [made.kind, made.accepted, made.states, made.cells],
+        Err(build::Refusal::Empty(row)) => [row, 0, 0, 0],
+        Err(build::Refusal::TooLong(row)) => [row, 0, 0, 0],
+        Err(_) => [0; 4],
     }
 }
 
-// The number of a refusal, and of a stop.
-fn refusal_number(why: Refusal) -> u32
+// The number of a search's refusal, and of a stop.
+fn refusal_number(why: search::Refusal) -> u32
     ensures { result ≡ number why }
 {
     match why {
-        Refusal::WrongKind => 9,
-        Refusal::LongText => 10,
-        Refusal::Damage => 11,
+        search::Refusal::WrongKind => 9,
+        search::Refusal::LongText => 10,
+        search::Refusal::Damage => 11,
     }
 }
 
@@ -67,19 +62,7 @@ fn stop_number(stop: Stop) -> u32
     }
 }
 
-// The value that four variables hold.
-pub fn held_in(state: u32, pending: u32, place: usize, moves: u64) -> Search
-    ensures { result ≡ held_in state pending place moves }
-{
-    Search {
-        state: CellId(state),
-        output: pending,
-        place,
-        moves,
-    }
-}
-
-// What a search is told of the tables.
+// What a search is told of the tables. It asks for no number of states.
 pub fn counts_of(kind: u32, accepted: u32, cells: u32) -> Counts
     ensures { result ≡ counts_of kind accepted cells }
 {
@@ -91,25 +74,34 @@ pub fn counts_of(kind: u32, accepted: u32, cells: u32) -> Counts
     }
 }
 
-// Hands the value and the count back in the caller's variables, and answers the stop's number.
-pub fn hand_back(
-    filled: Filled,
+// A search into a sheet, from the value in the caller's variables on, for the three searches that C calls. The value and the count are handed back
+// in these variables, which the C interface lends one by one; the answer is the stop's number.
+pub fn search_into<S: Searching>(
+    tables: &Tables<'_>,
+    text: &[u8],
     state: &mut u32,
     pending: &mut u32,
     place: &mut usize,
     moves: &mut u64,
+    sheet: &mut [[usize; 3]],
     written: &mut usize,
 ) -> u32
-    ensures value { result ≡ stop_number (stop_of filled.stop) }
-    ensures moves_after { held_in state.new pending.new place.new moves.new ≡ filled.value }
-    ensures written_after { written.new ≡ filled.count }
+    ensures { SearchPromise (sheet_of S.which (lent tables.now) tables.now.counts.kind text.now (length sheet.old)
+        (held_in state.old pending.old place.old moves.old)) sheet.old
+        state.new pending.new place.new moves.new sheet.new written.new result }
 {
+    let begun = Search {
+        state: CellId(*state),
+        output: *pending,
+        place: *place,
+        moves: *moves,
+    };
+    let filled = fill::<S>(begun, tables, text, sheet);
     let value = filled.value;
     *state = value.state.0;
     *pending = value.output;
     *place = value.place;
     *moves = value.moves;
     *written = filled.count;
-    let stop = filled.stop;
-    stop_number(stop)
+    stop_number(filled.stop)
 }

@@ -10,13 +10,14 @@ use lib.Dec.{eqb, ltb}
 use lib.ListN.{length, take}
 use Rattle.paper.specs.Lists.{pick}
 use Rattle.paper.specs.Patterns.{Entry}
-use Rattle.paper.proofs.Tests.{test, ltb_lt, ltb_le, or_not_left, or_not_right}
+use Rattle.std.proofs.lemmas.Bool.{ltb-true, ltb-false, or_parts}
+use Rattle.paper.proofs.Tests.{test}
 use Rattle.list.specs.Limits.{most_cells}
 use Rattle.list.specs.Kinds.{kind_of}
 use Rattle.list.specs.Refusals.{Refusal, Told, tells, lowest, any_holds, entry, without, distinct}
 use Rattle.list.specs.Listed.{refusals}
 use Rattle.list.specs.Claims.{Bytes, Sound}
-use Rattle.list.specs.declared.Listing.TheVariants.{Fine}
+use Rattle.list.specs.declared.Kind.TheVariants.{Standard}
 use Rattle.list.proofs.Refusals.{exactly}
 use Rattle.list.proofs.Sound.{fine_sound}
 use Rattle.table.specs.Agrees.{Agrees}
@@ -34,8 +35,9 @@ use Rattle.wipe.specs.Wiped.{blank, blank_rows}
 use Rattle.build.specs.Promise.{left, output_rows, Promise}
 use Rattle.build.specs.Claims.{AnswerClaims, BuildClaims}
 use Rattle.table.specs.declared.Counts.{Counts}
-use Rattle.build.specs.declared.Built.{Built}
-use Rattle.build.specs.declared.Built.TheVariants.{Made, BadKind, BadEnds, TooMany, Empty, TooLong, FewStates, FewCells, FewOutputs}
+use Rattle.std.specs.Prelude.{Result, Ok, Err}
+use Rattle.build.specs.declared.Refusal.{Refusal as Why}
+use Rattle.build.specs.declared.Refusal.TheVariants.{BadKind, BadEnds, TooMany, Empty, TooLong, FewStates, FewCells, FewOutputs}
 use Rattle.build.proofs.Counting.{lying}
 use Rattle.build.proofs.Outcomes.{outcome_made, outcome_caused}
 use Rattle.build.proofs.Phasing.{six}
@@ -61,7 +63,7 @@ told_back (some t) counts = refl
 quiet : (rs : List Refusal) → any_holds rs ≡ false → lowest rs ≡ none
 unfolding any_holds lowest
 quiet [] h = refl
-quiet (r ∷ rs) h = rw (or_not_left r.holds (any_holds rs) h) (quiet rs (or_not_right r.holds (any_holds rs) h))
+quiet (r ∷ rs) h = rw (or_parts r.holds (any_holds rs) h).0 (quiet rs (or_parts r.holds (any_holds rs) h).1)
 
 -- where nothing is told no condition holds
 silent : (rs : List Refusal) → lowest rs ≡ none → any_holds rs ≡ false
@@ -98,7 +100,7 @@ module _ (kind : ℕ) (bytes ends values : List ℕ) (slots : Lent) where
   -- ---- each answer has its cause
 
   sound_quiet : any_holds (refusals kind bytes ends values) ≡ false → Sound kind bytes ends values
-  sound_quiet h = fine_sound kind bytes ends values Fine (sym (quiet (refusals kind bytes ends values) h)) refl
+  sound_quiet h = fine_sound kind bytes ends values (Ok Standard) (sym (quiet (refusals kind bytes ends values) h)) refl
 
   -- the row of a number: its condition holds, and that of no row before it
   row : (k : ℕ) → k < 8 → (i : ℕ) → outcome_of kind bytes ends values slots ≡ refused (record { number = (entry (all_refusals kind bytes ends values slots) k).number; index = i })
@@ -125,17 +127,17 @@ module _ (kind : ℕ) (bytes ends values : List ℕ) (slots : Lent) where
   -- the rows of the tables, in numbers
   over_states : (entry (all_refusals kind bytes ends values slots) 5).holds ≡ true → slots.states < state_count es
   unfolding all_refusals refusals table_refusals
-  over_states h = ltb_lt slots.states (state_count es) h
+  over_states h = ltb-true slots.states (state_count es) h
 
   within_states : any_holds (take 1 (table_refusals es slots)) ≡ false → state_count es ≤ slots.states
   unfolding table_refusals any_holds
-  within_states h = ltb_le slots.states (state_count es) (or_not_left (ltb slots.states (state_count es)) false h)
+  within_states h = ltb-false slots.states (state_count es) (or_parts (ltb slots.states (state_count es)) false h).0
 
   over_cells : (entry (all_refusals kind bytes ends values slots) 6).holds ≡ true → (slots.cells < cell_count es) ⊎ (most_cells < cell_count es)
   unfolding all_refusals refusals table_refusals
   over_cells h =
-      test (ltb slots.cells (cell_count es)) (λ t. inl (ltb_lt slots.cells (cell_count es) t))
-      (λ t. inr (ltb_lt most_cells (cell_count es) (rw t at h)))
+      test (ltb slots.cells (cell_count es)) (λ t. inl (ltb-true slots.cells (cell_count es) t))
+      (λ t. inr (ltb-true most_cells (cell_count es) (rw t at h)))
 
   within_cells : any_holds (take 2 (table_refusals es slots)) ≡ false
       → (state_count es ≤ slots.states) × (cell_count es ≤ slots.cells) × (cell_count es ≤ most_cells)
@@ -144,15 +146,15 @@ module _ (kind : ℕ) (bytes ends values : List ℕ) (slots : Lent) where
       let six = ltb slots.states (state_count es) in
       let lent = ltb slots.cells (cell_count es) in
       let most = ltb most_cells (cell_count es) in
-      let seven = or_not_left (lent || most) false (or_not_right six ((lent || most) || false) h) in (
-        ltb_le slots.states (state_count es) (or_not_left six ((lent || most) || false) h),
-        ltb_le slots.cells (cell_count es) (or_not_left lent most seven),
-        ltb_le most_cells (cell_count es) (or_not_right lent most seven),
+      let seven = (or_parts (lent || most) false (or_parts six ((lent || most) || false) h).1).0 in (
+        ltb-false slots.states (state_count es) (or_parts six ((lent || most) || false) h).0,
+        ltb-false slots.cells (cell_count es) (or_parts lent most seven).0,
+        ltb-false most_cells (cell_count es) (or_parts lent most seven).1,
       )
 
   over_outputs : (entry (all_refusals kind bytes ends values slots) 7).holds ≡ true → slots.outputs < length es
   unfolding all_refusals refusals table_refusals
-  over_outputs h = ltb_lt slots.outputs (length es) h
+  over_outputs h = ltb-true slots.outputs (length es) h
 
   six_told : outcome_of kind bytes ends values slots ≡ refusal 6 → Sound kind bytes ends values × (slots.states < state_count es)
   unfolding all_refusals refusals table_refusals
@@ -164,8 +166,8 @@ module _ (kind : ℕ) (bytes ends values : List ℕ) (slots : Lent) where
   seven_told e =
       let q = row 6 (omega arith) 0 e in
       let none = sym rows_to_seven ∙ q.1 in (
-        sound_quiet (or_not_left (any_holds (refusals kind bytes ends values)) (any_holds (take 1 (table_refusals es slots))) none),
-        within_states (or_not_right (any_holds (refusals kind bytes ends values)) (any_holds (take 1 (table_refusals es slots))) none),
+        sound_quiet (or_parts (any_holds (refusals kind bytes ends values)) (any_holds (take 1 (table_refusals es slots))) none).0,
+        within_states (or_parts (any_holds (refusals kind bytes ends values)) (any_holds (take 1 (table_refusals es slots))) none).1,
         over_cells q.0,
       )
 
@@ -175,8 +177,8 @@ module _ (kind : ℕ) (bytes ends values : List ℕ) (slots : Lent) where
   eight_told e =
       let q = row 7 (omega arith) 0 e in
       let none = sym rows_to_eight ∙ q.1 in
-      let w = within_cells (or_not_right (any_holds (refusals kind bytes ends values)) (any_holds (take 2 (table_refusals es slots))) none) in
-      (sound_quiet (or_not_left (any_holds (refusals kind bytes ends values)) (any_holds (take 2 (table_refusals es slots))) none), w.0, w.1, w.2, over_outputs q.0)
+      let w = within_cells (or_parts (any_holds (refusals kind bytes ends values)) (any_holds (take 2 (table_refusals es slots))) none).1 in
+      (sound_quiet (or_parts (any_holds (refusals kind bytes ends values)) (any_holds (take 2 (table_refusals es slots))) none).0, w.0, w.1, w.2, over_outputs q.0)
 
   -- a good build: nothing is told
   pub good_told : (counts : Counts) → outcome_of kind bytes ends values slots ≡ made counts → Sound kind bytes ends values × Suffices es slots
@@ -185,19 +187,19 @@ module _ (kind : ℕ) (bytes ends values : List ℕ) (slots : Lent) where
       let quiet_all = silent (all_refusals kind bytes ends values slots) (sym told_is ∙ ap told_of e) in
       let first = any_holds (refusals kind bytes ends values) in
       let none = sym (any_append (refusals kind bytes ends values) (table_refusals es slots)) ∙ quiet_all in
-      let last = or_not_right first (any_holds (table_refusals es slots)) none in
+      let last = (or_parts first (any_holds (table_refusals es slots)) none).1 in
       let six = ltb slots.states (state_count es) in
       let lent = ltb slots.cells (cell_count es) in
       let most = ltb most_cells (cell_count es) in
       let eight = ltb slots.outputs (length es) in
-      let after = or_not_right six ((lent || most) || (eight || false)) last in
-      let seven = or_not_left (lent || most) (eight || false) after in (
-        sound_quiet (or_not_left first (any_holds (table_refusals es slots)) none),
+      let after = (or_parts six ((lent || most) || (eight || false)) last).1 in
+      let seven = (or_parts (lent || most) (eight || false) after).0 in (
+        sound_quiet (or_parts first (any_holds (table_refusals es slots)) none).0,
         record {
-          states = ltb_le slots.states (state_count es) (or_not_left six ((lent || most) || (eight || false)) last);
-          cells = ltb_le slots.cells (cell_count es) (or_not_left lent most seven);
-          most = ltb_le most_cells (cell_count es) (or_not_right lent most seven);
-          outputs = ltb_le slots.outputs (length es) (or_not_left eight false (or_not_right (lent || most) (eight || false) after));
+          states = ltb-false slots.states (state_count es) (or_parts six ((lent || most) || (eight || false)) last).0;
+          cells = ltb-false slots.cells (cell_count es) (or_parts lent most seven).0;
+          most = ltb-false most_cells (cell_count es) (or_parts lent most seven).1;
+          outputs = ltb-false slots.outputs (length es) (or_parts eight false (or_parts (lent || most) (eight || false) after).1).0;
         },
       )
 
@@ -233,30 +235,31 @@ module _ (kind : ℕ) (bytes ends values : List ℕ) (slots : Lent) where
 -- ---- one answer only
 
 -- the answer that an outcome stands for
-back : Outcome → Built
-back (made counts) = Made counts
+back : Outcome → Result Counts Why
+back (made counts) = Ok counts
 back (refused t) =
     let n = t.number in
     let i = t.index in
-    pick (eqb n 1) BadKind
+    Err
+    (pick (eqb n 1) BadKind
     (pick (eqb n 2) BadEnds
     (pick (eqb n 3) TooMany
     (pick (eqb n 4) (Empty i)
     (pick (eqb n 5) (TooLong i)
     (pick (eqb n 6) FewStates
-    (pick (eqb n 7) FewCells FewOutputs))))))
+    (pick (eqb n 7) FewCells FewOutputs)))))))
 
-back_answer : (r : Built) → back (answer r) ≡ r
+back_answer : (r : Result Counts Why) → back (answer r) ≡ r
 unfolding back
-back_answer (Made counts) = refl
-back_answer BadKind = refl
-back_answer BadEnds = refl
-back_answer TooMany = refl
-back_answer (Empty i) = refl
-back_answer (TooLong i) = refl
-back_answer FewStates = refl
-back_answer FewCells = refl
-back_answer FewOutputs = refl
+back_answer (Ok counts) = refl
+back_answer (Err BadKind) = refl
+back_answer (Err BadEnds) = refl
+back_answer (Err TooMany) = refl
+back_answer (Err (Empty i)) = refl
+back_answer (Err (TooLong i)) = refl
+back_answer (Err FewStates) = refl
+back_answer (Err FewCells) = refl
+back_answer (Err FewOutputs) = refl
 
 -- what is left by one outcome is left by an equal one
 same_left : {A : Type 0} {o p : Outcome} (was zero good : A) {x y : A} → o ≡ p → x ≡ left o was zero good → y ≡ left p was zero good → x ≡ y
@@ -271,7 +274,7 @@ module _ (kind : ℕ) (bytes ends values : List ℕ) (before : Lot) where
   abbrev accepted : List Entry
   accepted = accepted_of kind bytes ends
 
-  module _ {after : Lot} {counts : Counts} (B : Bytes bytes) (P : Promise kind bytes ends values before after (Made counts)) where
+  module _ {after : Lot} {counts : Counts} (B : Bytes bytes) (P : Promise kind bytes ends values before after (Ok counts)) where
     lent : Lent
     lent = slots_of before
 

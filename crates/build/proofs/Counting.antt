@@ -1,10 +1,10 @@
 -- Slots and blocks: which slices a number of cells fits into.
-use mathlib.Core.Path.{◌≡◌}
 use mathlib.Core.Logic.{◌⊎◌, inl, inr}
 use Prim.Native.Nat.{ℕ, ◌*◌, ◌/◌, ◌≤◌, ◌<◌}
 use native.Mathlib.Omega.{arith}
 use lib.Dec.{ltb}
-use Rattle.paper.proofs.Tests.{test, lt_ltb, ltb_lt, ltb_le, le_ltb}
+use Rattle.std.proofs.lemmas.Bool.{ltb-true, ltb-false}
+use Rattle.paper.proofs.Tests.{test}
 use Rattle.list.specs.Limits.{block, most_cells}
 use Rattle.list.proofs.Slots.{smaller_left, smaller_right}
 use Rattle.table.specs.Slots.{column_slots}
@@ -24,20 +24,13 @@ lying n spots base link output check depth h =
     let b = column_slots base link output check depth in
     record { in_spots = omega (arith, smaller_left spots b); columns = under n base link output check depth (omega (arith, smaller_right spots b)) }
 
--- the blocks that the slots hold, within the limit
-pub blocks_few : (slots : ℕ) → slots < most_cells → slots / block ≡ blocks_in slots
-blocks_few slots h = rw (lt_ltb slots most_cells h)
-
-pub blocks_many : (slots : ℕ) → most_cells ≤ slots → most_cells / block ≡ blocks_in slots
-blocks_many slots h = rw (le_ltb slots most_cells h)
-
 pub blocks_room : (slots : ℕ) → (blocks_in slots * block ≤ slots) × (blocks_in slots * block ≤ most_cells)
 blocks_room slots =
-    test (ltb slots most_cells) (λ h. let l = ltb_lt slots most_cells h in rw h (omega arith, omega arith))
-    (λ h. let l = ltb_le slots most_cells h in rw h (omega arith, omega arith))
+    test (ltb slots most_cells) (λ h. let l = ltb-true slots most_cells h in rw h (omega arith, omega arith))
+    (λ h. let l = ltb-false slots most_cells h in rw h (omega arith, omega arith))
 
 -- more blocks than those are more cells than the slots or than the limit
 pub blocks_full : (slots blocks : ℕ) → blocks_in slots < blocks → (slots < blocks * block) ⊎ (most_cells < blocks * block)
 blocks_full slots blocks h =
-    test (ltb slots most_cells) (λ t. let l = ltb_lt slots most_cells t in let x : slots / block < blocks = (rw t at h) in inl (omega (arith, x)))
+    test (ltb slots most_cells) (λ t. let l = ltb-true slots most_cells t in let x : slots / block < blocks = (rw t at h) in inl (omega (arith, x)))
     (λ t. let x : most_cells / block < blocks = (rw t at h) in inr (omega (arith, x)))

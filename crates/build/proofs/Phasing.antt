@@ -1,5 +1,5 @@
 -- What each phase hands to the next.
-use mathlib.Core.Path.{◌≡◌, refl, ap, ◌∙◌, subst}
+use mathlib.Core.Path.{◌≡◌, refl, ap, ◌∙◌}
 use mathlib.Core.List.{List, ◌++◌}
 use mathlib.Core.Logic.{inl, inr}
 use Prim.Native.Nat.{ℕ, zero, suc, ◌*◌, ◌-◌, ◌≤◌, ◌<◌}
@@ -18,18 +18,18 @@ use Rattle.plan.proofs.Machines.{machine_bounded}
 use Rattle.plan.proofs.Owners.{groups_full}
 use Rattle.plan.proofs.Placement.{window_reaches}
 use Rattle.plan.specs.Placement.{Layout}
-use Rattle.trie.specs.declared.Grew.{Grew}
-use Rattle.trie.specs.declared.Grew.TheVariants.{On}
-use Rattle.trie.specs.declared.Grew.TheVariants as grew
 use Rattle.outputs.specs.Placed.{all_stored, Placed}
 use Rattle.outputs.proofs.Noting.{still_linked}
-use Rattle.nfa.specs.Grown.{accepted_of, Grown, GrownOk}
+use Rattle.nfa.specs.Grown.{accepted_of, Grown}
+use Rattle.plan.specs.Names.{names, root_and_dead}
+use Rattle.plan.proofs.Names.{from_long}
+use Rattle.build.specs.Outcome.{counts_of}
 use Rattle.nfa.proofs.Accepted.{within, valued, few, fit}
 use Rattle.groups.specs.Ordered.{groups_of, Grouped}
 use Rattle.spots.proofs.Charting.{bytes}
 use Rattle.placement.specs.Laid.{first_block, Laid, Placeable, PlacedAll}
-use Rattle.placement.specs.declared.Blocks.{Blocks}
-use Rattle.placement.specs.declared.Blocks.TheVariants.{Now, Full}
+use Rattle.std.specs.Prelude.{Result, Ok, Err}
+use Rattle.placement.specs.declared.FewCells.{FewCells}
 use Rattle.cells.specs.Columns.{Writable, Written}
 use Rattle.whole.specs.Whole.{state_count, layout_of, cell_count, cells_of, outputs_of}
 use Rattle.whole.specs.Refusing.{Lent, Suffices}
@@ -53,16 +53,16 @@ placeable {es} L G e =
       few = L.few;
     }
 
-pub laid_by : (es : List Entry) (notes₀ notes₁ notes spots : List (List ℕ)) (count most : ℕ) (r : Blocks) → Grouped es notes₀ notes₁ count
+pub laid_by : (es : List Entry) (notes₀ notes₁ notes spots : List (List ℕ)) (count most : ℕ) (r : Result ℕ FewCells) → Grouped es notes₀ notes₁ count
     → PlacedAll es (groups_of es) notes₁ notes spots most r → LaidBy es notes₀ notes spots most r
-laid_by es notes₀ notes₁ notes spots count most (Now blocks) G P =
+laid_by es notes₀ notes₁ notes spots count most (Ok blocks) G P =
     record {
       blocks_are = P.blocks_are;
       enough = P.enough;
       laid = P.laid;
       kept = λ k f b. P.kept k f (omega arith) ∙ G.kept k f b;
     }
-laid_by es notes₀ notes₁ notes spots count most Full G P = P
+laid_by es notes₀ notes₁ notes spots count most (Err _) G P = P
 
 -- ---- outputs and cells
 
@@ -121,20 +121,15 @@ module _ {kind : Kind} {es : List Entry} {values : List ℕ} {lot : Lot} {states
 
 -- ---- the whole
 
--- an answer told apart
-module _ (kind : ℕ) (bytes ends : List ℕ) (slots : ℕ) (trie owns notes : List (List ℕ)) (r : Grew) (G : GrownOk kind bytes ends slots trie owns notes r) where
-  pub as_grown : (states count : ℕ) → r ≡ On states count → Grown kind bytes ends slots trie owns notes states count
-  as_grown states count e = subst (λ (x : Grew). GrownOk kind bytes ends slots trie owns notes x) e G
+-- the counts of the whole
+pub counts_here : {kind : ℕ} (es : List Entry) {accepted states blocks : ℕ} → accepted ≡ length es → states ≡ state_count es → blocks ≡ (layout_of es).blocks
+    → record { kind = kind; accepted = accepted; states = states - 1; cells = blocks * block } ≡ counts_of kind es
+counts_here es a s b = rw (a, s, b)
 
-  pub as_overgrown : r ≡ grew.Full → slots < state_count (accepted_of kind bytes ends)
-  as_overgrown e = subst (λ (x : Grew). GrownOk kind bytes ends slots trie owns notes x) e G
-
-module _ (es : List Entry) (notes₀ notes spots : List (List ℕ)) (most : ℕ) (r : Blocks) (L : LaidBy es notes₀ notes spots most r) where
-  pub as_laid : (blocks : ℕ) → r ≡ Now blocks → LaidDown es notes₀ notes spots most blocks
-  as_laid blocks e = subst (λ (x : Blocks). LaidBy es notes₀ notes spots most x) e L
-
-  pub as_overlaid : r ≡ Full → most < (layout_of es).blocks
-  as_overlaid e = subst (λ (x : Blocks). LaidBy es notes₀ notes spots most x) e L
+-- root and dead are always counted
+pub two_states : (es : List Entry) → 2 ≤ state_count es
+unfolding names root_and_dead
+two_states es = from_long (root_and_dead alphabet) es
 
 -- 6 with its cause
 pub six : (es : List Entry) (slots : Lent) → slots.states < state_count es → Caused es slots 6

@@ -1,6 +1,6 @@
 -- What is proved of the promise of `build`: when each answer is given, that no second answer or lot could meet it, and that the tables of a
 -- good build agree with the accepted patterns. The proofs stand in ../proofs; `claims` there has them all.
-use Rattle.std.specs.Prelude.{◌≡◌, List, ◌⊎◌, ◌↔◌, ℕ, ◌≤◌, ◌<◌, length}
+use Rattle.std.specs.Prelude.{◌≡◌, List, ◌⊎◌, ◌↔◌, ℕ, ◌≤◌, ◌<◌, length, Result, Ok}
 use Rattle.std.proofs.Math.Option.{some}
 use Rattle.list.specs.Limits.{most_cells}
 use Rattle.list.specs.Kinds.{kind_of}
@@ -14,8 +14,7 @@ use Rattle.build.specs.Lot.{Lot, results_of}
 use Rattle.build.specs.Outcome.{refused, made, refusal, counts_of, outcome_of}
 use Rattle.build.specs.Promise.{Promise}
 use Rattle.table.specs.declared.Counts.{Counts}
-use Rattle.build.specs.declared.Built.{Built}
-use Rattle.build.specs.declared.Built.TheVariants.{Made}
+use Rattle.build.specs.declared.Refusal.{Refusal}
 
 -- when each answer is given
 pub record AnswerClaims (kind : ℕ) (bytes ends values : List ℕ) (slots : Lent) : Type 0 where
@@ -41,9 +40,9 @@ pub record AnswerClaims (kind : ℕ) (bytes ends values : List ℕ) (slots : Len
 -- of the promise for these inputs and this lot before
 pub record BuildClaims (kind : ℕ) (bytes ends values : List ℕ) (before : Lot) : Type 0 where
   -- no second answer could meet it
-  pub one_answer : (after after' : Lot) (r r' : Built) → Promise kind bytes ends values before after r → Promise kind bytes ends values before after' r' → r ≡ r'
+  pub one_answer : (after after' : Lot) (r r' : Result Counts Refusal) → Promise kind bytes ends values before after r → Promise kind bytes ends values before after' r' → r ≡ r'
   -- and no second lot of tables
-  pub one_lot : (after after' : Lot) (r r' : Built) → Promise kind bytes ends values before after r → Promise kind bytes ends values before after' r' → after ≡ after'
+  pub one_lot : (after after' : Lot) (r r' : Result Counts Refusal) → Promise kind bytes ends values before after r → Promise kind bytes ends values before after' r' → after ≡ after'
   -- the tables of a good build agree with the accepted patterns
-  pub agrees : (after : Lot) (counts : Counts) → Bytes bytes → Promise kind bytes ends values before after (Made counts)
+  pub agrees : (after : Lot) (counts : Counts) → Bytes bytes → Promise kind bytes ends values before after (Ok counts)
       → Agrees (results_of after counts) (kind_of kind) (accepted_of kind bytes ends) values

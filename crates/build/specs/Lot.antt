@@ -3,7 +3,7 @@
 use Rattle.std.specs.Prelude.{List, ℕ, length}
 use Rattle.list.specs.Limits.{smaller}
 use Rattle.table.specs.Slots.{column_slots}
-use Rattle.table.specs.Agrees.{Tables, lent}
+use Rattle.table.specs.Agrees.{Tables}
 use Rattle.table.specs.declared.Counts.{Counts}
 use Rattle.whole.specs.Refusing.{Lent}
 
@@ -52,4 +52,14 @@ slots_of l =
 
 -- what a search is lent of it, with the counts of the build
 abbrev pub results_of : Lot → Counts → Tables
-results_of l counts = lent l.base l.link l.output l.check l.depth l.outs counts
+results_of l counts =
+    record {
+      base = l.base;
+      link = l.link;
+      output = l.output;
+      check = l.check;
+      depth = l.depth;
+      outs = l.outs;
+      cells = counts.cells;
+      accepted = counts.accepted;
+    }

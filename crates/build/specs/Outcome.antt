@@ -1,5 +1,5 @@
 -- What a build answers: the lowest refusal of document 01's table that applies, or the counts of a good build.
-use Rattle.std.specs.Prelude.{◌≡◌, List, ◌⊎◌, ℕ, ◌-◌, length}
+use Rattle.std.specs.Prelude.{◌≡◌, List, ◌⊎◌, ℕ, ◌-◌, length, Result, Ok, Err}
 use Rattle.std.proofs.Math.Option.{Option, none, some}
 use Rattle.paper.specs.Patterns.{Entry}
 use Rattle.list.specs.Refusals.{Told, lowest}
@@ -7,8 +7,10 @@ use Rattle.nfa.specs.Grown.{accepted_of}
 use Rattle.whole.specs.Whole.{state_count, cell_count}
 use Rattle.whole.specs.Refusing.{Lent, all_refusals}
 use Rattle.table.specs.declared.Counts.{Counts}
-use Rattle.build.specs.declared.Built.{Built}
-use Rattle.build.specs.declared.Built.TheVariants.{Made, BadKind, BadEnds, TooMany, Empty, TooLong, FewStates, FewCells, FewOutputs}
+use Rattle.list.specs.declared.Refusal.{Refusal as Unsound}
+use Rattle.list.specs.declared.Refusal.TheVariants as list
+use Rattle.build.specs.declared.Refusal.{Refusal}
+use Rattle.build.specs.declared.Refusal.TheVariants.{BadKind, BadEnds, TooMany, Empty, TooLong, FewStates, FewCells, FewOutputs}
 
 -- a refusal's number and index, or the counts of a good build
 pub data Outcome : Type 0 where
@@ -20,16 +22,28 @@ abbrev pub refusal : ℕ → Outcome
 refusal n = refused (record { number = n; index = 0 })
 
 -- each answer in the numbers of document 01
-abbrev pub answer : Built → Outcome
-answer (Made counts) = made counts
-answer BadKind = refusal 1
-answer BadEnds = refusal 2
-answer TooMany = refusal 3
-answer (Empty i) = refused (record { number = 4; index = i })
-answer (TooLong i) = refused (record { number = 5; index = i })
-answer FewStates = refusal 6
-answer FewCells = refusal 7
-answer FewOutputs = refusal 8
+abbrev pub answer : Result Counts Refusal → Outcome
+answer (Ok counts) = made counts
+answer (Err BadKind) = refusal 1
+answer (Err BadEnds) = refusal 2
+answer (Err TooMany) = refusal 3
+answer (Err (Empty i)) = refused (record { number = 4; index = i })
+answer (Err (TooLong i)) = refused (record { number = 5; index = i })
+answer (Err FewStates) = refusal 6
+answer (Err FewCells) = refusal 7
+answer (Err FewOutputs) = refusal 8
+
+-- the refusal of a build that a refusal of the list is
+abbrev pub of_list : Unsound → Refusal
+of_list list.BadKind = BadKind
+of_list list.BadEnds = BadEnds
+of_list list.TooMany = TooMany
+of_list (list.Empty i) = Empty i
+of_list (list.TooLong i) = TooLong i
+
+-- the one of the same name
+abbrev pub SameName : Unsound → Refusal → Type 0
+SameName unsound why = why ≡ of_list unsound
 
 -- the counts of a good build; dead is not counted among the states
 abbrev pub counts_of : ℕ → List Entry → Counts

@@ -1,5 +1,5 @@
 -- The phases on blank tables: what is asked of each, and what it leaves.
-use Rattle.std.specs.Prelude.{◌≡◌, List, ◌++◌, ◌⊎◌, ℕ, ◌*◌, ◌-◌, ◌/◌, ◌≤◌, ◌<◌, ltb, length, replicate}
+use Rattle.std.specs.Prelude.{◌≡◌, List, ◌++◌, ◌⊎◌, ℕ, ◌*◌, ◌-◌, ◌/◌, ◌≤◌, ◌<◌, ltb, length, replicate, Result, Ok, Err}
 use Rattle.zeros.specs.Rows.{zeros, field}
 use Rattle.paper.specs.Lists.{pick}
 use Rattle.paper.specs.Patterns.{Entry, Kind}
@@ -9,17 +9,16 @@ use Rattle.list.specs.Claims.{Sound}
 use Rattle.groups.specs.Ordered.{Groupable}
 use Rattle.outputs.specs.Placed.{Tabled}
 use Rattle.placement.specs.Laid.{Laid}
-use Rattle.placement.specs.declared.Blocks.{Blocks}
-use Rattle.placement.specs.declared.Blocks.TheVariants.{Now, Full}
+use Rattle.placement.specs.declared.FewCells.{FewCells}
+use Rattle.table.specs.declared.Counts.{Counts}
 use Rattle.cells.specs.Columns.{Blanks, Written}
 use Rattle.nfa.specs.Grown.{accepted_of}
 use Rattle.whole.specs.Whole.{state_count, layout_of, cell_count, cells_of, outputs_of}
 use Rattle.whole.specs.Refusing.{Lent, Suffices}
 use Rattle.build.specs.Lot.{Lot, slots_of}
-use Rattle.build.specs.Outcome.{TableRefusal}
+use Rattle.build.specs.Outcome.{TableRefusal, refusal, answer, counts_of}
 use Rattle.wipe.specs.Wiped.{blank, blank_rows}
-use Rattle.build.specs.declared.phases.Progress.{Progress}
-use Rattle.build.specs.declared.phases.Progress.TheVariants.{Done, Refused}
+use Rattle.build.specs.declared.Refusal.{Refusal}
 
 -- ---- the layout
 
@@ -47,9 +46,9 @@ pub record LaidDown (es : List Entry) (notes₀ notes spots : List (List ℕ)) (
   pub kept : (k f : ℕ) → f < 3 → field notes k f ≡ field notes₀ k f
 
 -- the layout stands; or it needs more blocks than may be used
-abbrev pub LaidBy : List Entry → List (List ℕ) → List (List ℕ) → List (List ℕ) → ℕ → Blocks → Type 0
-LaidBy es notes₀ notes spots most (Now blocks) = LaidDown es notes₀ notes spots most blocks
-LaidBy es notes₀ notes spots most Full = most < (layout_of es).blocks
+abbrev pub LaidBy : List Entry → List (List ℕ) → List (List ℕ) → List (List ℕ) → ℕ → Result ℕ FewCells → Type 0
+LaidBy es notes₀ notes spots most (Ok blocks) = LaidDown es notes₀ notes spots most blocks
+LaidBy es notes₀ notes spots most (Err few) = most < (layout_of es).blocks
 
 -- ---- outputs and cells
 
@@ -90,11 +89,10 @@ pub record Prepared (kind : ℕ) (bytes ends values : List ℕ) (lot : Lot) : Ty
   pub outs_blank : lot.outs ≡ blank_rows 3 lot.outs
 
 -- all is done, and these are the counts
-pub record AllDone (kind : ℕ) (bytes ends values : List ℕ) (before after : Lot) (accepted states blocks : ℕ) : Type 0 where
+pub record AllDone (kind : ℕ) (bytes ends values : List ℕ) (before after : Lot) (counts : Counts) : Type 0 where
   pub fits : Suffices (accepted_of kind bytes ends) (slots_of before)
-  pub states_are : states ≡ state_count (accepted_of kind bytes ends)
-  pub blocks_are : blocks ≡ (layout_of (accepted_of kind bytes ends)).blocks
-  pub filled : Filled (kind_of kind) (accepted_of kind bytes ends) values before after accepted
+  pub counts_are : counts ≡ counts_of kind (accepted_of kind bytes ends)
+  pub filled : Filled (kind_of kind) (accepted_of kind bytes ends) values before after counts.accepted
 
 -- a refusal has its cause, and none before it has
 pub record Caused (es : List Entry) (slots : Lent) (n : ℕ) : Type 0 where
@@ -103,7 +101,8 @@ pub record Caused (es : List Entry) (slots : Lent) (n : ℕ) : Type 0 where
   pub seven : n ≡ 7 → (state_count es ≤ slots.states) × ((slots.cells < cell_count es) ⊎ (most_cells < cell_count es))
   pub eight : n ≡ 8 → (state_count es ≤ slots.states) × (cell_count es ≤ slots.cells) × (cell_count es ≤ most_cells) × (slots.outputs < length es)
 
--- what the phases answer
-abbrev pub PhasesOk : ℕ → List ℕ → List ℕ → List ℕ → Lot → Lot → Progress → Type 0
-PhasesOk kind bytes ends values before after (Done accepted states blocks) = AllDone kind bytes ends values before after accepted states blocks
-PhasesOk kind bytes ends values before after (Refused n) = Caused (accepted_of kind bytes ends) (slots_of before) n
+-- what the phases answer: the counts, or a refusal by its number with its cause
+abbrev pub PhasesOk : ℕ → List ℕ → List ℕ → List ℕ → Lot → Lot → Result Counts Refusal → Type 0
+PhasesOk kind bytes ends values before after (Ok counts) = AllDone kind bytes ends values before after counts
+PhasesOk kind bytes ends values before after (Err why) =
+    (n : ℕ) × (answer (Err why) ≡ refusal n) × Caused (accepted_of kind bytes ends) (slots_of before) n

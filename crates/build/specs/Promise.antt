@@ -1,5 +1,5 @@
 -- The promise of `build`: its answer and every lent table at exit, as equations over what was handed in.
-use Rattle.std.specs.Prelude.{◌≡◌, List, ◌++◌, ℕ, ◌-◌, leb, length, replicate}
+use Rattle.std.specs.Prelude.{◌≡◌, List, ◌++◌, ℕ, ◌-◌, leb, length, replicate, Result}
 use Rattle.zeros.specs.Rows.{zeros}
 use Rattle.paper.specs.Lists.{pick}
 use Rattle.paper.specs.Patterns.{Entry, Kind}
@@ -10,7 +10,8 @@ use Rattle.whole.specs.Whole.{cells_of, outputs_of}
 use Rattle.build.specs.Lot.{Lot, slots_of}
 use Rattle.build.specs.Outcome.{Outcome, refused, made, answer, outcome_of}
 use Rattle.wipe.specs.Wiped.{blank, blank_rows}
-use Rattle.build.specs.declared.Built.{Built}
+use Rattle.table.specs.declared.Counts.{Counts}
+use Rattle.build.specs.declared.Refusal.{Refusal}
 
 -- a table at exit: as it was where 1 to 5 are told, zero where 6 to 8 are, and else what a good build leaves in it
 abbrev pub left : {A : Type 0} → Outcome → A → A → A → A
@@ -22,7 +23,7 @@ abbrev pub output_rows : Kind → List Entry → List ℕ → ℕ → List (List
 output_rows kind es values slots = outputs_of kind es values ++ replicate (slots - length es) (zeros 3)
 
 -- what is promised of the answer r and of the lots before and after; a good build leaves the working tables zero
-pub record Promise (kind : ℕ) (bytes ends values : List ℕ) (before after : Lot) (r : Built) : Type 0 where
+pub record Promise (kind : ℕ) (bytes ends values : List ℕ) (before after : Lot) (r : Result Counts Refusal) : Type 0 where
   pub outcome : Outcome
   pub outcome_is : outcome ≡ outcome_of kind bytes ends values (slots_of before)
   pub answered : answer r ≡ outcome

@@ -1,26 +1,27 @@
 // The tables of a pattern list: `build`, with refusals 1 to 8. All tables are lent and may hold anything. Working tables are zero again
-// after a good build; nothing is changed by 1 to 5, and all is zero after 6 to 8.
+// after a good build; nothing is changed by 1 to 5, and all is zero after 6 to 8. The ten tables come one by one, from C and from Rattle:
+// in a struct of `&mut`s each of them would need a clause more in every contract, that its reference is still the one lent.
 #![tactic(auto)]
 
 ghost use Rattle.std.specs.Prelude.{◌≡◌};
+ghost use Rattle.list.specs.Answers.{kind_named};
 ghost use Rattle.list.specs.Claims.{Sound};
+ghost use Rattle.list.specs.Kinds.{kind_of};
 ghost use Rattle.build.specs.Lot.{lot_of};
-ghost use Rattle.build.specs.Outcome.{TableRefusal, answer, refusal};
 ghost use Rattle.build.specs.Promise.{Promise};
 
-use list::Listing;
-use list::limits::BLOCK;
+use list::{Kind, List};
 use table::{Counts, Depth};
 use wipe::{wipe_results, wipe_working};
 
 mod phases;
 mod slots;
 
-use phases::{Progress, phases};
+use phases::phases;
 
-#[derive(Clone, Copy)]
-pub enum Built {
-    Made(Counts),
+// Why there are no tables of a list.
+#[derive(Clone, Copy, Debug, PartialEq, Eq)]
+pub enum Refusal {
     // 1: the kind is above 2.
     BadKind,
     // 2: the counts of ends and values differ, or the ends don't cut the bytes.
@@ -39,74 +40,47 @@ pub enum Built {
     FewOutputs,
 }
 
-// A refusal for the lent tables by its number.
-fn refused(number: u32) -> Built
-    requires { TableRefusal number }
-    ensures { answer result ≡ refusal number }
-{
-    if number == 6 {
-        return Built::FewStates;
-    }
-    if number == 7 {
-        return Built::FewCells;
-    }
-    Built::FewOutputs
-}
+// A refusal of the list is the build's of that name.
+impl From<list::Refusal> for Refusal {
+    ghost use Rattle.build.specs.Outcome.{SameName};
 
-// The tables of a sound list.
-fn make(
-    kind: u32,
-    bytes: &[u8],
-    ends: &[u32],
-    values: &[u32],
-    trie: &mut [[u32; 5]],
-    owns: &mut [[u32; 2]],
-    notes: &mut [[u32; 6]],
-    spots: &mut [[u32; 2]],
-    base: &mut [u32],
-    link: &mut [u32],
-    output: &mut [u32],
-    check: &mut [u8],
-    depth: &mut [Depth],
-    outs: &mut [[u32; 3]],
-) -> Built
-    requires { Sound kind bytes.now ends.now values.now }
-    ensures { Promise kind bytes.now ends.now values.now
-        (lot_of trie.old owns.old notes.old spots.old
-        base.old link.old output.old check.old depth.old outs.old)
-        (lot_of trie.new owns.new notes.new spots.new
-        base.new link.new output.new check.new depth.new outs.new) result }
-{
-    zeros::zero_pairs(spots);
-    wipe_results(base, link, output, check, depth, outs);
-    let done = phases(
-        kind, bytes, ends, values, trie, owns, notes, spots, base, link, output, check, depth, outs,
-    );
-    wipe_working(trie, owns, notes, spots);
-    match done {
-        Progress::Done {
-            accepted,
-            states,
-            blocks,
-        } => Built::Made(Counts {
-            kind: kind,
-            accepted: accepted,
-            states: states - 1,
-            cells: blocks * BLOCK,
-        }),
-        Progress::Refused(number) => {
-            wipe_results(base, link, output, check, depth, outs);
-            refused(number)
+    ghost from_gives = { SameName };
+
+    fn from(why: list::Refusal) -> Refusal {
+        match why {
+            list::Refusal::BadKind => Refusal::BadKind,
+            list::Refusal::BadEnds => Refusal::BadEnds,
+            list::Refusal::TooMany => Refusal::TooMany,
+            list::Refusal::Empty(i) => Refusal::Empty(i),
+            list::Refusal::TooLong(i) => Refusal::TooLong(i),
         }
     }
 }
 
-// The tables of a list, or a refusal.
-pub fn build(
-    kind: u32,
-    bytes: &[u8],
-    ends: &[u32],
-    values: &[u32],
+impl From<trie::FewStates> for Refusal {
+    ghost use Rattle.build.specs.declared.Refusal.TheVariants as why;
+
+    ghost from_gives = { λ _ e. e ≡ why.FewStates };
+
+    fn from(_few: trie::FewStates) -> Refusal {
+        Refusal::FewStates
+    }
+}
+
+impl From<placement::FewCells> for Refusal {
+    ghost use Rattle.build.specs.declared.Refusal.TheVariants as why;
+
+    ghost from_gives = { λ _ e. e ≡ why.FewCells };
+
+    fn from(_few: placement::FewCells) -> Refusal {
+        Refusal::FewCells
+    }
+}
+
+// The tables of a sound list.
+fn make(
+    kind: Kind,
+    list: List<'_>,
     trie: &mut [[u32; 5]],
     owns: &mut [[u32; 2]],
     notes: &mut [[u32; 6]],
@@ -117,22 +91,49 @@ pub fn build(
     check: &mut [u8],
     depth: &mut [Depth],
     outs: &mut [[u32; 3]],
-) -> Built
-    ensures { Promise kind bytes.now ends.now values.now
+) -> Result<Counts, Refusal>
+    requires sound { Sound list.kind list.bytes.now list.ends.now list.values.now }
+    requires named { kind_named kind ≡ kind_of list.kind }
+    ensures { Promise list.entry.kind list.entry.bytes.now list.entry.ends.now list.entry.values.now
         (lot_of trie.old owns.old notes.old spots.old
         base.old link.old output.old check.old depth.old outs.old)
         (lot_of trie.new owns.new notes.new spots.new
         base.new link.new output.new check.new depth.new outs.new) result }
 {
-    match list::check_list(kind, bytes, ends, values) {
-        Listing::BadKind => return Built::BadKind,
-        Listing::BadEnds => return Built::BadEnds,
-        Listing::TooMany => return Built::TooMany,
-        Listing::Empty(i) => return Built::Empty(i),
-        Listing::TooLong(i) => return Built::TooLong(i),
-        Listing::Fine => {}
+    zeros::zero_all(spots);
+    wipe_results(base, link, output, check, depth, outs);
+    let made = phases(
+        kind, list, trie, owns, notes, spots, base, link, output, check, depth, outs,
+    );
+    wipe_working(trie, owns, notes, spots);
+    if made.is_err() {
+        wipe_results(base, link, output, check, depth, outs);
     }
+    made
+}
+
+// The tables of a list, or a refusal.
+pub fn build(
+    list: List<'_>,
+    trie: &mut [[u32; 5]],
+    owns: &mut [[u32; 2]],
+    notes: &mut [[u32; 6]],
+    spots: &mut [[u32; 2]],
+    base: &mut [u32],
+    link: &mut [u32],
+    output: &mut [u32],
+    check: &mut [u8],
+    depth: &mut [Depth],
+    outs: &mut [[u32; 3]],
+) -> Result<Counts, Refusal>
+    ensures { Promise list.entry.kind list.entry.bytes.now list.entry.ends.now list.entry.values.now
+        (lot_of trie.old owns.old notes.old spots.old
+        base.old link.old output.old check.old depth.old outs.old)
+        (lot_of trie.new owns.new notes.new spots.new
+        base.new link.new output.new check.new depth.new outs.new) result }
+{
+    let kind = list.check()?;
     make(
-        kind, bytes, ends, values, trie, owns, notes, spots, base, link, output, check, depth, outs,
+        kind, list, trie, owns, notes, spots, base, link, output, check, depth, outs,
     )
 }

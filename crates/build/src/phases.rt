@@ -1,30 +1,27 @@
 // The phases of a build on blank tables, in the order of their refusals: 6, 7, 8.
-ghost use Rattle.std.specs.Prelude.{List, ℕ, length};
-ghost use Rattle.paper.specs.Patterns.{Entry, Kind};
+ghost use Rattle.std.specs.Prelude.{◌≡◌, List as Numbers, ℕ, length};
+ghost use Rattle.paper.specs.Patterns.{Entry, Kind as Search};
+ghost use Rattle.list.specs.Answers.{kind_named};
+ghost use Rattle.list.specs.Kinds.{kind_of};
 ghost use Rattle.build.specs.Lot.{lot_of};
 ghost use Rattle.build.specs.Phases.{LayableSome, Layable, LaidBy, Fillable, FillableSome, Filled, Prepared, PhasesOk};
 
+use crate::Refusal;
 use crate::slots::{cell_slots, most_blocks};
-use list::limits::least;
-use placement::Blocks;
-use table::Depth;
-use trie::Grew;
-
-#[derive(Clone, Copy)]
-pub(crate) enum Progress {
-    Done {
-        accepted: u32,
-        states: u32,
-        blocks: u32,
-    },
-    // 6, 7 or 8.
-    Refused(u32),
-}
+use list::limits::BLOCK;
+use list::{Kind, List};
+use placement::FewCells;
+use table::{Counts, Depth};
 
 // The groups in their order, and each state's cell.
-fn lay_out(trie: &[[u32; 5]], notes: &mut [[u32; 6]], spots: &mut [[u32; 2]], most: u32) -> Blocks
+fn lay_out(
+    trie: &[[u32; 5]],
+    notes: &mut [[u32; 6]],
+    spots: &mut [[u32; 2]],
+    most: u32,
+) -> Result<u32, FewCells>
     requires { LayableSome trie.now (length notes.old) spots.old most }
-    ensures { (es : List Entry) → Layable es trie.now (length notes.old) spots.old most
+    ensures { (es : Numbers Entry) → Layable es trie.now (length notes.old) spots.old most
         → LaidBy es notes.old notes.new spots.new most result }
 {
     let groups = groups::order_groups(trie, notes);
@@ -49,7 +46,7 @@ fn fill(
 ) -> u32
     requires { FillableSome values.now (lot_of trie.now owns.now notes.old spots.now
         base.old link.old output.old check.old depth.old outs.old) states blocks }
-    ensures { (kind : Kind) (es : List Entry) → Fillable kind es values.now
+    ensures { (kind : Search) (es : Numbers Entry) → Fillable kind es values.now
         (lot_of trie.now owns.now notes.old spots.now
         base.old link.old output.old check.old depth.old outs.old) states blocks
         → Filled kind es values.now
@@ -65,11 +62,10 @@ fn fill(
     stored
 }
 
+// The tables of a sound list: its trie and links, the layout of its groups, then outputs and cells.
 pub(crate) fn phases(
-    kind: u32,
-    bytes: &[u8],
-    ends: &[u32],
-    values: &[u32],
+    kind: Kind,
+    list: List<'_>,
     trie: &mut [[u32; 5]],
     owns: &mut [[u32; 2]],
     notes: &mut [[u32; 6]],
@@ -80,32 +76,42 @@ pub(crate) fn phases(
     check: &mut [u8],
     depth: &mut [Depth],
     outs: &mut [[u32; 3]],
-) -> Progress
-    requires { Prepared kind bytes.now ends.now values.now (lot_of trie.old owns.old notes.old spots.old
+) -> Result<Counts, Refusal>
+    requires prepared { Prepared list.kind list.bytes.now list.ends.now list.values.now
+        (lot_of trie.old owns.old notes.old spots.old
         base.old link.old output.old check.old depth.old outs.old) }
-    ensures { PhasesOk kind bytes.now ends.now values.now
+    requires named { kind_named kind ≡ kind_of list.kind }
+    ensures { PhasesOk list.entry.kind list.entry.bytes.now list.entry.ends.now list.entry.values.now
         (lot_of trie.old owns.old notes.old spots.old
         base.old link.old output.old check.old depth.old outs.old)
         (lot_of trie.new owns.new notes.new spots.new
         base.new link.new output.new check.new depth.new outs.new) result }
 {
-    let Grew::On { states, accepted } = nfa::grow(kind, bytes, ends, values, trie, owns, notes)
-    else {
-        return Progress::Refused(6);
-    };
+    let grown = nfa::grow(kind, list, trie, owns, notes)?;
     let most = most_blocks(cell_slots(spots, base, link, output, check, depth));
-    let Blocks::Now(blocks) = lay_out(trie, notes, spots, most) else {
-        return Progress::Refused(7);
-    };
-    if least(owns.len(), outs.len()) < accepted as usize {
-        return Progress::Refused(8);
+    let blocks = lay_out(trie, notes, spots, most)?;
+    if owns.len().min(outs.len()) < grown.accepted as usize {
+        return Err(Refusal::FewOutputs);
     }
-    let stored = fill(
-        trie, owns, notes, spots, values, base, link, output, check, depth, outs, states, blocks,
+    let accepted = fill(
+        trie,
+        owns,
+        notes,
+        spots,
+        list.values,
+        base,
+        link,
+        output,
+        check,
+        depth,
+        outs,
+        grown.states,
+        blocks,
     );
-    Progress::Done {
-        accepted: stored,
-        states: states,
-        blocks: blocks,
-    }
+    Ok(Counts {
+        kind: list.kind,
+        accepted,
+        states: grown.states - 1,
+        cells: blocks * BLOCK,
+    })
 }

@@ -3,7 +3,7 @@ ghost use Rattle.std.specs.Prelude.{◌≡◌, length};
 ghost use Rattle.build.specs.Lot.{cell_slots};
 ghost use Rattle.build.specs.Phases.{blocks_in};
 
-use list::limits::{BLOCK, MOST_CELLS, least};
+use list::limits::{BLOCK, MOST_CELLS};
 use table::Depth;
 use table::slots::column_slots;
 
@@ -18,18 +18,14 @@ pub(crate) fn cell_slots(
     ensures { result ≡ cell_slots (length spots.now) (length base.now) (length link.now)
         (length output.now) (length check.now) (length depth.now) }
 {
-    least(spots.len(), column_slots(base, link, output, check, depth))
+    spots
+        .len()
+        .min(column_slots(base, link, output, check, depth))
 }
-
-const MOST_BLOCKS: u32 = (MOST_CELLS / BLOCK as usize) as u32;
 
 // The blocks that the slots hold, but no more than the limit.
 pub(crate) fn most_blocks(slots: usize) -> u32
     ensures { result ≡ blocks_in slots }
 {
-    if slots < MOST_CELLS {
-        (slots / BLOCK as usize) as u32
-    } else {
-        MOST_BLOCKS
-    }
+    (slots.min(MOST_CELLS) / BLOCK as usize) as u32
 }

@@ -2,64 +2,26 @@
 // in a line, and then the moves.
 #![tactic(auto)]
 
-use build::Built;
-use search::{Answer, Match, Search};
+use build::build;
+use list::List;
+use search::{Answer, Search};
 use std::io;
-use std::io::Stdout;
-use table::{Counts, Depth};
+use table::{Depth, Tables};
 
 // More calls than the text has matches: at each of its bytes at most 3 patterns end, and the end is said once.
 const CALLS: u32 = 13;
 
-fn say(out: Stdout, text: &[u8]) -> io::Result<()> {
-    out.write_all(text)
-}
-
-// For a refusal, of which none is due here.
-fn say_refused(out: Stdout) -> io::Result<()> {
-    say(out, b"refused\n")
-}
-
-fn print_match(out: Stdout, found: Match) -> io::Result<()> {
-    out.print(found.start as u64)?;
-    say(out, b" ")?;
-    out.print(found.end as u64)?;
-    say(out, b" ")?;
-    out.print(found.value as u64)?;
-    say(out, b"\n")
-}
-
-fn print_moves(out: Stdout, at: Search) -> io::Result<()> {
-    say(out, b"moves ")?;
-    out.print(at.moves)?;
-    say(out, b"\n")
-}
-
 // What a search says up to its end.
-fn print_all(
-    out: Stdout,
-    base: &[u32],
-    link: &[u32],
-    output: &[u32],
-    check: &[u8],
-    depth: &[Depth],
-    outs: &[[u32; 3]],
-    counts: Counts,
-    text: &[u8],
-) -> io::Result<()> {
-    let mut at = Search::fresh();
+fn print_all(rt: &impl Print, tables: &Tables<'_>, text: &[u8]) -> io::Result<()> {
+    let mut search = Search::fresh();
     for _ in 0..CALLS {
-        match at.next_overlapping(base, link, output, check, depth, outs, counts, text) {
+        match search.next_overlapping(tables, text) {
             Answer::Match(found, next) => {
-                print_match(out, found)?;
-                at = next;
+                println!(rt; "{} {} {}", found.start, found.end, found.value)?;
+                search = next;
             }
-            Answer::End(last) => {
-                return print_moves(out, last);
-            }
-            Answer::Refused(_, _) => {
-                return say_refused(out);
-            }
+            Answer::End(last) => return println!(rt; "moves {}", last.moves),
+            Answer::Refused(_, _) => return println!(rt; "refused"),
         }
     }
     Ok(())
@@ -76,13 +38,14 @@ fn main(rt: HostRuntime) -> io::Result<()> {
     let mut check = [0u8; 256];
     let mut depth = [0 as Depth; 256];
     let mut outs = [[0u32; 3]; 4];
-    let ends = [3u32, 5, 6];
-    let values = [0u32, 1, 2];
-    let built = build::build(
-        0,
-        b"bcdaba",
-        &ends,
-        &values,
+    let list = List {
+        kind: 0,
+        bytes: b"bcdaba",
+        ends: &[3, 5, 6],
+        values: &[0, 1, 2],
+    };
+    let built = build(
+        list,
         &mut trie,
         &mut owns,
         &mut notes,
@@ -94,18 +57,17 @@ fn main(rt: HostRuntime) -> io::Result<()> {
         &mut depth,
         &mut outs,
     );
-    let Built::Made(counts) = built else {
-        return say_refused(rt.stdout());
+    let Ok(counts) = built else {
+        return println!(rt; "refused");
     };
-    print_all(
-        rt.stdout(),
-        &base,
-        &link,
-        &output,
-        &check,
-        &depth,
-        &outs,
+    let tables = Tables {
+        base: &base,
+        link: &link,
+        output: &output,
+        check: &check,
+        depth: &depth,
+        outs: &outs,
         counts,
-        b"abcd",
-    )
+    };
+    print_all(&rt, &tables, b"abcd")
 }

@@ -11,7 +11,8 @@ use lib.ListN.{length, get_or}
 use Rattle.paper.specs.Lists.{snoc}
 use Rattle.paper.specs.Patterns.{Entry}
 use Rattle.paper.specs.Automaton.{is_state, Link}
-use Rattle.paper.proofs.Tests.{test, clash, not_false}
+use Rattle.std.proofs.lemmas.Bool.{not-false}
+use Rattle.paper.proofs.Tests.{test, clash}
 use Rattle.paper.proofs.Links.{Ended, none as nothing, last, ended}
 use Rattle.list.specs.Limits.{alphabet, block, most_bytes}
 use Rattle.plan.specs.Names.{names}
@@ -92,7 +93,7 @@ module _ {es : List Entry} {l : Layout} {link_of : List ℕ → Link} {place_of 
           | yes low ↦ clash (low_spare spots j low) f
           | no high ↦
               let t : taken_cell l j ≡ true
-              = not_false (taken_cell l j) (sym (W.laid.charted.vacancy j (room j h)) ∙ sym (high_spare spots j (omega arith)) ∙ f) in
+              = not-false (taken_cell l j) (sym (W.laid.charted.vacancy j (room j h)) ∙ sym (high_spare spots j (omega arith)) ∙ f) in
               let r = taken_owner alphabet most_bytes bytes (is_state es) (bounded W) l W.full j t (λ e. omega arith) in
               child_at_lem j (λ e. omega arith) r.0 r.1
         ]

@@ -6,8 +6,8 @@ use native.Mathlib.Decide.{ℕ_discrete}
 use native.Mathlib.Omega.{arith}
 use lib.ListN.{length, get_or, set, length-set}
 use lib.Seq.{get_or-set_same, get_or-set_other}
-use Rattle.paper.proofs.Tests.{eq_eqb, ne_eqb}
-use Rattle.cells.specs.Writing.{seat_of, target_of, output_of, group_base, own_byte, depth_of, Inside, seated, CellWritten, StatesWritten}
+use Rattle.std.proofs.lemmas.Bool.{eq-eqb, ne_eqb}
+use Rattle.cells.specs.Writing.{seat_of, target_of, output_of, group_base, own_byte, depth_of, seated, CellWritten, StatesWritten}
 
 module _ (cell value : ℕ → ℕ) (column : List ℕ) where
   -- ---- one state more
@@ -18,7 +18,7 @@ module _ (cell value : ℕ → ℕ) (column : List ℕ) where
 
   pub seated_dead : (n : ℕ) → n ≡ 1 → seated (suc n) cell value column ≡ seated n cell value column
   unfolding seated
-  seated_dead n e = rw (eq_eqb n 1 e)
+  seated_dead n e = rw (eq-eqb n 1 e)
 
   pub seated_more : (n : ℕ) → (n ≡ 1 → ⊥) → seated (suc n) cell value column ≡ set (seated n cell value column) (cell n) (value n)
   unfolding seated
@@ -92,29 +92,6 @@ module _ {trie notes : List (List ℕ)} {base₀ link₀ output₀ check₀ dept
 
   module _ {n : ℕ} {base link output check depth : List ℕ}
       (W : StatesWritten trie notes n base₀ link₀ output₀ check₀ depth₀ base link output check depth) where
-    -- each column is as long as it was
-    pub states_same : (length base ≡ length base₀) × (length link ≡ length link₀) × (length output ≡ length output₀)
-        × (length check ≡ length check₀) × (length depth ≡ length depth₀)
-    states_same = (
-      ap length W.bases ∙ seated_length _ _ base₀ n,
-      ap length W.links ∙ seated_length _ _ link₀ n,
-      ap length W.outputs ∙ seated_length _ _ output₀ n,
-      ap length W.checks ∙ seated_length _ _ check₀ n,
-      ap length W.depths ∙ seated_length _ _ depth₀ n,
-    )
-
-    -- so a cell that was inside them is
-    pub still_inside : {i : ℕ} → Inside (length base₀) (length link₀) (length output₀) (length check₀) (length depth₀) i
-        → Inside (length base) (length link) (length output) (length check) (length depth) i
-    still_inside I =
-        record {
-          base_slot = rw states_same.0 I.base_slot;
-          link_slot = rw states_same.1 I.link_slot;
-          output_slot = rw states_same.2 I.output_slot;
-          check_slot = rw states_same.3 I.check_slot;
-          depth_slot = rw states_same.4 I.depth_slot;
-        }
-
     -- dead is passed
     pub states_dead : n ≡ 1 → StatesWritten trie notes (suc n) base₀ link₀ output₀ check₀ depth₀ base link output check depth
     states_dead e =

@@ -1,6 +1,5 @@
 -- The checks of the cells without a byte, cell by cell and then block by block.
-use mathlib.Core.Path.{◌≡◌, refl, sym, ap, ◌∙◌}
-use mathlib.Core.Bool.{true, false}
+use mathlib.Core.Path.{◌≡◌, sym, ap, ◌∙◌}
 use mathlib.Core.List.{List}
 use mathlib.Core.Option.{none, some, some-injective, none-ne-some}
 use Prim.Native.Nat.{ℕ, suc, ◌+◌, ◌*◌, ◌/◌, ◌≤◌, ◌<◌}
@@ -8,60 +7,22 @@ use native.Mathlib.Decide.{ℕ_discrete}
 use native.Mathlib.Omega.{arith}
 use lib.Bits.{bit_xor, xor_self, xor_shr}
 use lib.Dec.{eqb}
-use lib.ListN.{length, set}
-use lib.Seq.{get_or-set_same, get_or-set_other}
+use Rattle.std.specs.Prelude.{Option, Some, None}
 use Rattle.zeros.specs.Rows.{field}
-use Rattle.paper.proofs.Tests.{clash}
 use Rattle.list.specs.Limits.{alphabet, block}
 use Rattle.plan.specs.Placement.{first_where}
 use Rattle.plan.proofs.Scans.{first_some}
 use Rattle.spots.specs.Charted.{based}
-use Rattle.spots.specs.declared.Base.{Base}
-use Rattle.spots.specs.declared.Base.TheVariants.{At, Nothing}
-use Rattle.cells.specs.Writing.{is_spare, unused_from, Spared, BlocksSpared}
-
-module _ {spots : List (List ℕ)} {base from : ℕ} {check₀ : List ℕ} where
-  pub spared_none : Spared spots base from from check₀ check₀
-  spared_none = record { spare = λ j h l. absurd (omega arith); kept = λ j h. refl }
-
-  module _ {end : ℕ} {check : List ℕ} (S : Spared spots base from end check₀ check) where
-    -- a cell without a byte gets its check
-    pub spared_more : from ≤ end → end < length check → is_spare spots end ≡ true
-        → Spared spots base from (suc end) check₀ (set check end (bit_xor base end))
-    spared_more after r t =
-        record {
-          spare = λ j h l q.
-              elim (ℕ_discrete j end) [
-                | yes e ↦ rw e (get_or-set_same check end (bit_xor base end) 0 r)
-                | no e ↦ get_or-set_other check end j (bit_xor base end) 0 e ∙ S.spare j h (omega arith) q
-              ];
-          kept = λ j h.
-              elim (ℕ_discrete j end) [
-                | yes e ↦ absurd (h (omega arith) (omega arith) (rw e t))
-                | no e ↦ get_or-set_other check end j (bit_xor base end) 0 e ∙ S.kept j (λ a l q. h a (omega arith) q)
-              ];
-        }
-
-    -- another is passed
-    pub spared_past : is_spare spots end ≡ false → Spared spots base from (suc end) check₀ check
-    spared_past f =
-        record {
-          spare = λ j h l q.
-              elim (ℕ_discrete j end) [
-                | yes e ↦ clash q (rw e f)
-                | no e ↦ S.spare j h (omega arith) q
-              ];
-          kept = λ j h. S.kept j (λ a l q. h a (omega arith) q);
-        }
+use Rattle.cells.specs.Writing.{unused_from, Spared, BlocksSpared}
 
 -- ---- the base that nobody has
 
-module _ (spots : List (List ℕ)) (from : ℕ) (r : Base) (said : based r ≡ first_where (λ (b : ℕ). eqb (field spots b 1) 0) from block) where
-  pub found_some : (u : ℕ) → r ≡ At u → unused_from spots from ≡ some u
+module _ (spots : List (List ℕ)) (from : ℕ) (r : Option ℕ) (said : based r ≡ first_where (λ (b : ℕ). eqb (field spots b 1) 0) from block) where
+  pub found_some : (u : ℕ) → r ≡ Some u → unused_from spots from ≡ some u
   unfolding unused_from
   found_some u e = sym said ∙ ap based e
 
-  pub found_none : r ≡ Nothing → unused_from spots from ≡ none
+  pub found_none : r ≡ None → unused_from spots from ≡ none
   unfolding unused_from
   found_none e = sym said ∙ ap based e
 
@@ -73,9 +34,6 @@ found_inside spots from u e = let F = first_some (λ (b : ℕ). eqb (field spots
 -- ---- the blocks
 
 module _ {spots : List (List ℕ)} {check₀ : List ℕ} where
-  pub blocks_none : BlocksSpared spots 0 check₀ check₀
-  blocks_none = record { spare = λ k j u h. absurd (omega arith); kept = λ j h. refl }
-
   module _ {n : ℕ} {check : List ℕ} (B : BlocksSpared spots n check₀ check) where
     -- a block that has an unused base
     pub blocks_more : {check' : List ℕ} (u : ℕ) → unused_from spots (n * block) ≡ some u

@@ -6,13 +6,13 @@ use Prim.Native.Nat.{ℕ, ◌≤◌, ◌<◌}
 use lib.Bits.{bit_xor}
 use lib.Dec.{eqb}
 use Rattle.zeros.specs.Rows.{field}
-use Rattle.paper.proofs.Tests.{eq_eqb, ne_eqb, lt_ltb, le_ltb}
+use Rattle.std.proofs.lemmas.Bool.{eq-eqb, ne_eqb, lt-ltb, le-ltb}
 use Rattle.cells.specs.Writing.{seat_of, group_base, own_byte, is_spare}
 
 module _ (trie notes : List (List ℕ)) (s : ℕ) where
   pub childless : field trie s 0 ≡ 0 → group_base trie notes s ≡ 0
   unfolding group_base
-  childless z = rw (eq_eqb (field trie s 0) 0 z)
+  childless z = rw (eq-eqb (field trie s 0) 0 z)
 
   pub by_first : (field trie s 0 ≡ 0 → ⊥) → group_base trie notes s ≡ bit_xor (seat_of notes (field trie s 0)) (field trie (field trie s 0) 2)
   unfolding group_base
@@ -20,7 +20,7 @@ module _ (trie notes : List (List ℕ)) (s : ℕ) where
 
   pub no_byte : s ≡ 0 → own_byte trie s ≡ 0
   unfolding own_byte
-  no_byte z = rw (eq_eqb s 0 z)
+  no_byte z = rw (eq-eqb s 0 z)
 
   pub own_byte_lem : (s ≡ 0 → ⊥) → own_byte trie s ≡ field trie s 2
   unfolding own_byte
@@ -29,8 +29,8 @@ module _ (trie notes : List (List ℕ)) (s : ℕ) where
 module _ (spots : List (List ℕ)) (j : ℕ) where
   pub low_spare : j < 2 → is_spare spots j ≡ true
   unfolding is_spare
-  low_spare h = rw (lt_ltb j 2 h)
+  low_spare h = rw (lt-ltb j 2 h)
 
   pub high_spare : 2 ≤ j → is_spare spots j ≡ eqb (field spots j 0) 0
   unfolding is_spare
-  high_spare h = rw (le_ltb j 2 h)
+  high_spare h = rw (le-ltb j 2 h)

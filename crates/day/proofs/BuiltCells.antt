@@ -1,6 +1,7 @@
 -- The columns that a good build left hold the fields of the build's cells, so the rules of the cells are rules of the columns.
+use Rattle.std.specs.Prelude.{Option, Some, None, Result, Ok}
 use mathlib.Core.Path.{◌≡◌, sym, ap, ◌∙◌}
-use mathlib.Core.Bool.{true, false, true≢false}
+use mathlib.Core.Bool.{true, true≢false}
 use mathlib.Core.List.{List, [], ◌∷◌}
 use mathlib.Core.Logic.{◌↔◌}
 use Prim.Native.Nat.{ℕ, ◌*◌, ◌≤◌, ◌<◌}
@@ -12,7 +13,8 @@ use native.Mathlib.Nat.{zero-add}
 use Rattle.paper.specs.Lists.{snoc, each}
 use Rattle.paper.specs.Patterns.{Entry}
 use Rattle.paper.specs.Automaton.{is_state}
-use Rattle.paper.proofs.Tests.{test, not_true→false}
+use Rattle.std.proofs.lemmas.Bool.{false_from_ne_true}
+use Rattle.paper.proofs.Tests.{test}
 use Rattle.paper.proofs.Strings.{by_snoc}
 use Rattle.list.specs.Limits.{alphabet, block, most_bytes}
 use Rattle.list.specs.Kinds.{kind_of}
@@ -27,8 +29,8 @@ use Rattle.nfa.proofs.Accepted.{within, fit}
 use Rattle.cells.specs.Columns.{column}
 use Rattle.table.specs.Agrees.{Agrees, probe_in}
 use Rattle.table.specs.declared.Counts.{Counts}
-use Rattle.table.specs.declared.Found.{Found}
-use Rattle.table.specs.declared.Found.TheVariants as found
+use Rattle.table.specs.declared.CellId.{CellId}
+use Rattle.table.specs.declared.Damage.{Damage}
 use Rattle.table.proofs.Agrees.{cell_root, cell_child}
 use Rattle.table.proofs.Claims as readers
 use Rattle.table.proofs.Inside.{there_yes}
@@ -171,7 +173,7 @@ module _ {kind : ℕ} {bytes ends values : List ℕ} (b : GoodBuild kind bytes e
       record {
         from = N.there.0;
         within = N.there.1;
-        unused = not_true→false (used_base l u) (λ e. N.unused (to_used u e));
+        unused = false_from_ne_true (used_base l u) (λ e. N.unused (to_used u e));
         smallest = λ v h m. used v (N.smallest v (h, omega (arith, N.there.1)) m);
       }
 
@@ -187,11 +189,11 @@ module _ {kind : ℕ} {bytes ends values : List ℕ} (b : GoodBuild kind bytes e
   -- ---- probes
 
   probe : (s : List ℕ) (c : ℕ) → IsState b s → c < alphabet
-      → (probe_in (tables_left b) (cell_left b s) c ≡ found.At (record { 0 = cell_left b (snoc s c) })) ↔ IsState b (snoc s c)
+      → (probe_in (tables_left b) (cell_left b s) c ≡ Ok (Some (record { 0 = cell_left b (snoc s c) }))) ↔ IsState b (snoc s c)
   probe s c h k = (λ e. test (is_state es (snoc s c)) (λ t. t) (λ t. apart e (A.childless s c h k t)), A.child s c)
     where
-      apart : {f : Found} → f ≡ found.At (record { 0 = cell_left b (snoc s c) }) → f ≡ found.Nothing → IsState b (snoc s c)
-      apart p q = let z : ◌≡◌ {A = ℕ} 0 1 = cc in absurd (omega arith)
+      apart : {f : Result (Option CellId) Damage} → f ≡ Ok (Some (record { 0 = cell_left b (snoc s c) })) → f ≡ Ok None → IsState b (snoc s c)
+      apart p q = cc
 
   -- ---- all of them
 
@@ -215,7 +217,7 @@ module _ {kind : ℕ} {bytes ends values : List ℕ} (b : GoodBuild kind bytes e
             (readers.claims).childless b.exit.base b.exit.check b.counts.cells (cell_left b s) c
             (sym (there_yes b.counts.cells (length b.exit.base) (cell_left b s) (A.inside s h) (omega (arith, A.inside s h, A.rooms.base_room)))) z;
         probe = probe;
-        zero_unused = λ U. let e = used 0 U in let z = R.zero_unused in let n : true ≡ false = sym e ∙ z in absurd (true≢false n);
+        zero_unused = λ U. true≢false (sym (used 0 U) ∙ R.zero_unused);
         vacant_check = λ k u j N I v.
             rw (check_slot j (there j v)) (R.vacant_check k u (omega (arith, I.0, there j v)) (smallest k u N) j I (is_vacant j v));
         low_check = λ u j N h. rw (check_slot j (low j h)) (R.low_check u (smallest 0 u N) j h);

@@ -1,7 +1,7 @@
 -- The case table: the counts by computing, the matches and the moves from the end-to-end statements and the lists and walks, which compute.
 use mathlib.Core.Path.{◌≡◌, refl, sym, ap, ◌∙◌}
 use mathlib.Core.Bool.{Bool, true, ◌&&◌}
-use mathlib.Core.List.{List, [], ◌∷◌, ◌++◌, map, Memᴰ, nil≢cons}
+use mathlib.Core.List.{List, [], ◌∷◌, ◌++◌, map, Memᴰ, tail-eq_of_cons-eq}
 use Prim.Native.Nat.{ℕ, zero, suc}
 use native.Mathlib.Omega.{arith}
 use lib.Dec.{ltb, leb}
@@ -11,7 +11,7 @@ use Rattle.paper.specs.Patterns.{Choice, longest, first, standard, rows, rows_fr
 use Rattle.paper.specs.Matches.{Match, with_payloads, occurs, starting_at, between, ending_at, by_end, by_length, by_row, apart, overlapping, plain, leftmost_by}
 use Rattle.paper.specs.Automaton.{is_state, own_of, longest_state, failure, begins, before, is_dead, link, hunt, chain, step, walk}
 use Rattle.paper.specs.Cases.{bytes, paper_list, list1, values3, short_first, long_first, twins}
-use Rattle.paper.proofs.Tests.{and_left, and_right, ltb_lt, leb_le}
+use Rattle.std.proofs.lemmas.Bool.{ltb-true, leb-true, and_parts}
 use Rattle.list.specs.Limits.{alphabet, most_text}
 use Rattle.list.specs.Claims.{Bytes}
 use Rattle.list.specs.Refusals.{lowest}
@@ -36,7 +36,7 @@ use Rattle.build.specs.Outcome as build
 use Rattle.build.specs.Outcome.{outcome_of}
 use Rattle.search.specs.Values as search
 use Rattle.search.specs.Values.{Which, Outcome, gives, ends, refuses}
-use Rattle.meaning.specs.Repeated.{Saying, match, end, refusal, said, then_end}
+use Rattle.meaning.specs.Repeated.{Saying, match, end, said, then_end}
 use Rattle.meaning.specs.Demands.{value_in, kind_number, walk_moves, plain_moves, no_moves, HasTaken, StandardDemands, LeftmostDemands}
 use Rattle.day.specs.EndToEnd.{GoodBuild, searches, listed}
 use Rattle.day.specs.CaseTable.{Input, under, ends_from, slots, Builds, good, BuildOf, calls, last_moves, Case, three, CaseTable}
@@ -53,8 +53,8 @@ all_bytes (c ∷ s) = ltb c alphabet && all_bytes s
 all_bytes_lem : (s : List ℕ) → all_bytes s ≡ true → Bytes s
 unfolding all_bytes
 all_bytes_lem [] h k = omega arith
-all_bytes_lem (c ∷ s) h zero = ltb_lt c alphabet (and_left (ltb c alphabet) (all_bytes s) h)
-all_bytes_lem (c ∷ s) h (suc k) = all_bytes_lem s (and_right (ltb c alphabet) (all_bytes s) h) k
+all_bytes_lem (c ∷ s) h zero = ltb-true c alphabet (and_parts (ltb c alphabet) (all_bytes s) h).0
+all_bytes_lem (c ∷ s) h (suc k) = all_bytes_lem s (and_parts (ltb c alphabet) (all_bytes s) h).1 k
 
 -- ---- a build's answer
 
@@ -108,32 +108,19 @@ then_end_lem : (k : ℕ) (l : List (Match ℕ)) → take (suc (length l)) (map m
 then_end_lem k [] = refl
 then_end_lem k (m ∷ l) = ap (λ (r : List Saying). match m ∷ r) (then_end_lem k l)
 
-others : List Saying → List Saying
-others [] = []
-others (s ∷ l) = l
-
-some_left : (l : List (Match ℕ)) → [] ≡ map match l ++ (end ∷ []) → ⊥
-some_left [] e = nil≢cons e
-some_left (m ∷ l) e = nil≢cons e
-
-first_said : List Saying → ℕ
-first_said [] = 0
-first_said (match m ∷ l) = 1
-first_said (end ∷ l) = 2
-first_said (refusal n ∷ l) = 3
-
 -- the moves at the end, if each answer has the moves of what it has taken
 end_moves : (moves : List ℕ → ℕ) (text : List ℕ) (os : List Outcome) (l : List (Match ℕ)) → map said os ≡ map match l ++ (end ∷ [])
     → ((o : Outcome) → Memᴰ o os → HasTaken moves text o)
     → last_moves os ≡ moves text
-unfolding others first_said
-end_moves moves text [] l e f = absurd (some_left l e)
-end_moves moves text (o ∷ []) (m ∷ l) e f = absurd (some_left l (ap others e))
+end_moves moves text [] [] e f = cc
+end_moves moves text [] (m ∷ l) e f = cc
+end_moves moves text (o ∷ []) (m ∷ []) e f = cc
+end_moves moves text (o ∷ []) (m ∷ k ∷ l) e f = cc
 end_moves moves text (ends u ∷ []) [] e f = (f (ends u) (Memᴰ.head refl)).1
-end_moves moves text (gives m u ∷ []) [] e f = absurd (omega (arith, ap first_said e))
-end_moves moves text (refuses n u ∷ []) [] e f = absurd (omega (arith, ap first_said e))
-end_moves moves text (o ∷ p ∷ os) [] e f = absurd (nil≢cons (sym (ap others e)))
-end_moves moves text (o ∷ p ∷ os) (m ∷ l) e f = end_moves moves text (p ∷ os) l (ap others e) (λ q k. f q (Memᴰ.tail k))
+end_moves moves text (gives m u ∷ []) [] e f = cc
+end_moves moves text (refuses n u ∷ []) [] e f = cc
+end_moves moves text (o ∷ p ∷ os) [] e f = cc
+end_moves moves text (o ∷ p ∷ os) (m ∷ l) e f = end_moves moves text (p ∷ os) l (tail-eq_of_cons-eq e) (λ q k. f q (Memᴰ.tail k))
 
 -- ---- a case from what is proved of all lists and texts
 
@@ -170,7 +157,7 @@ module _ (ps : List (List ℕ)) (values text : List ℕ) (B : all_bytes (table.j
       (λ b n. (D b).overlapping_says n ∙ ap (then_end n) list) (λ b. (D b).overlapping_moves)
     where
       D : (b : BuildOf (under 0 ps values)) → StandardDemands (searches b text) (listed (table.joined ps) (ends_from 0 ps)) values text
-      D b = ((day.claims).standard_day (table.joined ps) (ends_from 0 ps) values text b (all_bytes_lem (table.joined ps) B) (all_bytes_lem text C) (leb_le (length text) most_text short)).demands
+      D b = ((day.claims).standard_day (table.joined ps) (ends_from 0 ps) values text b (all_bytes_lem (table.joined ps) B) (all_bytes_lem text C) (leb-true (length text) most_text short)).demands
 
   by_plain : outcome_of 0 (table.joined ps) (ends_from 0 ps) values (slots (suc states) 256 accepted) ≡ good (under 0 ps values) accepted states 256
       → slots_of (exactly (slots (suc states) 256 accepted)) ≡ slots (suc states) 256 accepted
@@ -182,7 +169,7 @@ module _ (ps : List (List ℕ)) (values text : List ℕ) (B : all_bytes (table.j
       (λ b n. (D b).plain_says n ∙ ap (then_end n) list) (λ b. (D b).plain_moves_lem)
     where
       D : (b : BuildOf (under 0 ps values)) → StandardDemands (searches b text) (listed (table.joined ps) (ends_from 0 ps)) values text
-      D b = ((day.claims).standard_day (table.joined ps) (ends_from 0 ps) values text b (all_bytes_lem (table.joined ps) B) (all_bytes_lem text C) (leb_le (length text) most_text short)).demands
+      D b = ((day.claims).standard_day (table.joined ps) (ends_from 0 ps) values text b (all_bytes_lem (table.joined ps) B) (all_bytes_lem text C) (leb-true (length text) most_text short)).demands
 
   -- leftmost search reports no moves
   by_leftmost : (c : Choice)
@@ -196,7 +183,7 @@ module _ (ps : List (List ℕ)) (values text : List ℕ) (B : all_bytes (table.j
       (λ b n. (D b).leftmost_says n ∙ ap (then_end n) list) (λ b. (D b).leftmost_moves)
     where
       D : (b : BuildOf (under (kind_number c) ps values)) → LeftmostDemands (searches b text) c (listed (table.joined ps) (ends_from 0 ps)) values text
-      D b = ((day.claims).leftmost_day c (table.joined ps) (ends_from 0 ps) values text b (all_bytes_lem (table.joined ps) B) (all_bytes_lem text C) (leb_le (length text) most_text short)).demands
+      D b = ((day.claims).leftmost_day c (table.joined ps) (ends_from 0 ps) values text b (all_bytes_lem (table.joined ps) B) (all_bytes_lem text C) (leb-true (length text) most_text short)).demands
 
 -- ---- the table
 

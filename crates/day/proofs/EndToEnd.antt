@@ -16,18 +16,13 @@ use Rattle.table.specs.Agrees.{Agrees}
 use Rattle.nfa.specs.Grown.{accepted_of}
 use Rattle.whole.specs.Refusing.{Lent, Suffices}
 use Rattle.build.specs.Lot.{slots_of}
-use Rattle.build.specs.Outcome.{Outcome, refused, made, outcome_of}
+use Rattle.build.specs.Outcome.{made, outcome_of}
 use Rattle.build.proofs.Claims.{good_told, answer_claims, build_claims}
 use Rattle.search.specs.Searches.{next_of}
 use Rattle.meaning.specs.Repeated.{then_end}
 use Rattle.meaning.specs.Demands.{value_in, kind_number, StandardDemands, LeftmostDemands}
 use Rattle.meaning.proofs.Claims as meaning
 use Rattle.day.specs.EndToEnd.{GoodBuild, tables_left, StandardDay, LeftmostDay, DayClaims}
-
--- the kind that an outcome names, 0 for a refusal
-kind_in : Outcome → ℕ
-kind_in (refused t) = 0
-kind_in (made counts) = counts.kind
 
 module _ {kind : ℕ} {bytes ends values : List ℕ} (b : GoodBuild kind bytes ends values) where
   slots : Lent
@@ -45,8 +40,7 @@ module _ {kind : ℕ} {bytes ends values : List ℕ} (b : GoodBuild kind bytes e
 
   -- the kind in the counts is the one that was asked for
   kind_is : b.counts.kind ≡ kind
-  unfolding kind_in
-  kind_is = ap kind_in (sym was_made ∙ (answer_claims kind bytes ends values slots).good.1 cause)
+  kind_is = cc (was_made, (answer_claims kind bytes ends values slots).good.1 cause)
 
   pub agrees : Bytes bytes → Agrees (tables_left b) (kind_of kind) (accepted_of kind bytes ends) values
   agrees B = (build_claims kind bytes ends values b.entry).agrees b.exit b.counts B b.promised

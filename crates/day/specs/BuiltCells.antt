@@ -1,6 +1,6 @@
 -- Document 01's rules for cells of the tables that any good build left: the five columns of cells at exit, read slot by slot. A state's cell is the one that
 -- these bases lead to, so no layout is needed but for the order of placing. The proof is `built_cells` in ../proofs.
-use Rattle.std.specs.Prelude.{◌≡◌, true, false, List, [], ◌≢◌, ◌↔◌, ℕ, ◌*◌, ◌≤◌, ◌<◌, length, get_or}
+use Rattle.std.specs.Prelude.{◌≡◌, true, false, List, [], ◌≢◌, ◌↔◌, ℕ, ◌*◌, ◌≤◌, ◌<◌, length, get_or, Some, None, Ok}
 use Rattle.std.specs.Int.Bits.{bit_xor}
 use Rattle.paper.specs.Lists.{snoc}
 use Rattle.paper.specs.Automaton.{is_state}
@@ -9,7 +9,6 @@ use Rattle.list.specs.Claims.{Bytes}
 use Rattle.plan.specs.Placement.{base_of}
 use Rattle.nfa.specs.Grown.{accepted_of}
 use Rattle.table.specs.Agrees.{probe_in, state_cell}
-use Rattle.table.specs.declared.Found.TheVariants as found
 use Rattle.whole.specs.Whole.{layout_of}
 use Rattle.whole.specs.CellRules.{InBlock, PlacingRules}
 use Rattle.day.specs.EndToEnd.{GoodBuild, tables_left}
@@ -79,10 +78,10 @@ pub record BuiltCells {kind : ℕ} {bytes ends values : List ℕ} (b : GoodBuild
   -- "Childless: base 0"
   pub childless : (s : List ℕ) → IsState b s → ((c : ℕ) → NoState b (snoc s c)) → base_left b s ≡ 0
   -- "from which every probe fails"
-  pub probe_fails : (s : List ℕ) (c : ℕ) → IsState b s → base_left b s ≡ 0 → probe_in (tables_left b) (cell_left b s) c ≡ found.Nothing
+  pub probe_fails : (s : List ℕ) (c : ℕ) → IsState b s → base_left b s ≡ 0 → probe_in (tables_left b) (cell_left b s) c ≡ Ok None
   -- "For every state and every byte, a probe is accepted exactly when that state has that child"
   pub probe : (s : List ℕ) (c : ℕ) → IsState b s → c < alphabet
-      → (probe_in (tables_left b) (cell_left b s) c ≡ found.At (record { 0 = cell_left b (snoc s c) })) ↔ IsState b (snoc s c)
+      → (probe_in (tables_left b) (cell_left b s) c ≡ Ok (Some (record { 0 = cell_left b (snoc s c) }))) ↔ IsState b (snoc s c)
   -- "0 counts as unused"
   pub zero_unused : UsedLeft b 0 → ⊥
   -- "in each block with an unused base, let u be the smallest: each vacant cell there gets the check c with u xor c equal to the cell"

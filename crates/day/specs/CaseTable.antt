@@ -1,17 +1,18 @@
 -- Document 01's case table as one statement: what a build of each list answers with exactly the slots that it needs, and what a search says over the tables
 -- that any good build of it left. Build and searches stand here by what their code promises. Its proof is `case_table` in ../proofs.
-use Rattle.std.specs.Prelude.{◌≡◌, List, [], ◌∷◌, ◌++◌, map, ℕ, suc, ◌+◌, length, take, get_or, replicate}
+use Rattle.std.specs.Prelude.{◌≡◌, List, [], ◌∷◌, ◌++◌, map, ℕ, suc, ◌+◌, length, take, get_or, replicate, Result}
 use Rattle.paper.specs.Lists.{each}
 use Rattle.paper.specs.Matches.{Match}
 use Rattle.paper.specs.Cases.{bytes, at, paper_list, list1, values3, short_first, long_first, twins}
 use Rattle.plan.specs.Cells.{Cell}
 use Rattle.plan.specs.PlacementCases.{cell}
+use Rattle.table.specs.declared.Counts.{Counts}
 use Rattle.whole.specs.Refusing.{Lent}
 use Rattle.build.specs.Lot.{Lot, slots_of}
 use Rattle.build.specs.Outcome as build
 use Rattle.build.specs.Outcome.{made, refused, refusal}
 use Rattle.build.specs.Promise.{Promise}
-use Rattle.build.specs.declared.Built.{Built}
+use Rattle.build.specs.declared.Refusal.{Refusal}
 use Rattle.search.specs.Values.{Which, overlapping, plain, leftmost, Outcome, begun}
 use Rattle.meaning.specs.Repeated.{match, end, handed_back, answers, said}
 use Rattle.day.specs.EndToEnd.{GoodBuild, searches}
@@ -46,7 +47,7 @@ slots states cells outputs = record { states = states; cells = cells; outputs = 
 
 -- a build of this input with so many slots answers this, whatever else the lent tables are
 abbrev pub Builds : Input → Lent → build.Outcome → Type 0
-Builds i lent o = (before after : Lot) (r : Built) → slots_of before ≡ lent
+Builds i lent o = (before after : Lot) (r : Result Counts Refusal) → slots_of before ≡ lent
     → Promise i.kind (joined i.patterns) (ends_from 0 i.patterns) i.values before after r
     → build.answer r ≡ o
 

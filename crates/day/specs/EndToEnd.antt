@@ -1,7 +1,7 @@
 -- A day's work, from the pattern list to the matches: demands 2 and 3 (meaning/specs/Demands.antt) over the tables that a good build leaves. Build
 -- and searches stand here by what their code promises; the lists of matches are those of plain occurrence in the listed patterns, and each is given
 -- with the sentence that it meets. The proofs stand in ../proofs; `claims` there has them all.
-use Rattle.std.specs.Prelude.{List, ℕ, ◌≤◌, length}
+use Rattle.std.specs.Prelude.{List, ℕ, ◌≤◌, length, Ok}
 use Rattle.paper.specs.Patterns.{Entry, Choice, rows}
 use Rattle.paper.specs.Matches.{overlapping, plain, leftmost_by, Overlapping, Chosen, ByEnd, Leftmost}
 use Rattle.list.specs.Limits.{most_text}
@@ -11,7 +11,6 @@ use Rattle.table.specs.Agrees.{Tables}
 use Rattle.table.specs.declared.Counts.{Counts}
 use Rattle.build.specs.Lot.{Lot, results_of}
 use Rattle.build.specs.Promise.{Promise}
-use Rattle.build.specs.declared.Built.TheVariants.{Made}
 use Rattle.search.specs.declared.Search.{Search}
 use Rattle.search.specs.Values.{Which, Outcome}
 use Rattle.search.specs.Searches.{next_of}
@@ -24,7 +23,7 @@ pub record GoodBuild (kind : ℕ) (bytes ends values : List ℕ) : Type 0 where
   pub entry : Lot
   pub exit : Lot
   pub counts : Counts
-  pub promised : Promise kind bytes ends values entry exit (Made counts)
+  pub promised : Promise kind bytes ends values entry exit (Ok counts)
 
 -- the tables that it leaves, as they are lent to a search
 abbrev pub tables_left : {kind : ℕ} {bytes ends values : List ℕ} → GoodBuild kind bytes ends values → Tables

@@ -8,7 +8,7 @@ use lib.Dec.{eqb}
 use lib.ListN.{length, take, drop, length-append}
 use lib.Seq.{take-append_seam, drop_at}
 use Rattle.paper.specs.Lists.{same}
-use Rattle.paper.proofs.Tests.{le_ltb}
+use Rattle.std.proofs.lemmas.Bool.{le-ltb}
 use Rattle.paper.proofs.Strings.{same_eq, eq_same}
 use Rattle.list.specs.Listed.{patterns_from, falls, last_from}
 use Rattle.list.specs.Claims.{SoundEnds}
@@ -26,7 +26,7 @@ codes_of rs = map (λ (r : Listed). r.code) rs
 rising : (a : ℕ) (rs : List Listed) → falls a (ends_from a rs) ≡ false
 unfolding falls ends_from
 rising a [] = refl
-rising a (r ∷ rs) = rw (le_ltb (a + length r.code) a (omega arith)) (rising (a + length r.code) rs)
+rising a (r ∷ rs) = rw (le-ltb (a + length r.code) a (omega arith)) (rising (a + length r.code) rs)
 
 last_end : (a : ℕ) (rs : List Listed) → last_from a (ends_from a rs) ≡ a + length (joined rs)
 unfolding last_from ends_from joined
@@ -59,7 +59,7 @@ warns_of (r ∷ rs) code = ap (λ (b : Bool). (eqb r.mark 1 && same r.code code)
 pub claims : DeskClaims
 claims =
     record {
-      held = λ rs count end bytes ends values marks h.
+      held = λ rs bytes ends values marks h.
           record {
             cut = rw (h.bytes_are, h.ends_are) (cut_out rs);
             patterns = rw (h.bytes_are, h.ends_are) (codes_behind [] rs);

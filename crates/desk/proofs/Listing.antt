@@ -1,40 +1,52 @@
 -- Laws of the whole list: what the loop over its lines keeps, and what each way out of it ends with.
-use mathlib.Core.Path.{◌≡◌, refl, sym, ap, subst, ◌∙◌}
+use mathlib.Core.Path.{◌≡◌, refl, sym, ap, ◌∙◌}
 use mathlib.Core.List.{List, [], ◌∷◌, ◌++◌, append_assoc, append-nil}
-use mathlib.Core.Option.{Option, none, some}
-use Prim.Native.Nat.{ℕ, suc, ◌+◌, ◌-◌, ◌≤◌, ◌<◌}
+use Prim.Native.Nat.{ℕ, suc, ◌+◌, ◌≤◌, ◌<◌}
 use native.Mathlib.Numerals.{add-one}
-use native.Mathlib.Nat.{not-suc-le-zero}
 use native.Mathlib.Omega.{arith}
 use lib.Dec.{eqb}
-use lib.ListN.{length, take, drop, set, length-append, length-drop, drop_of_length-le}
-use lib.Seq.{take-suc-set, drop-drop}
-use Rattle.paper.proofs.Tests.{test, le_leb, lt_leb}
-use Rattle.desk.specs.Stretches.{line_feed, ahead, line_end, on_first, lines_of, bare}
-use Rattle.desk.specs.Rows.{Listed, row_of}
-use Rattle.desk.specs.Codes.{Listing, rows, bad_value, too_many, after, listing, codes, joined, ends_from, values_of, marks_of, Held, Taken, line_told, Inside}
-use Rattle.desk.specs.declared.codes.Line.{Line}
-use Rattle.desk.specs.declared.codes.Line.TheVariants as line
+use lib.ListN.{length, take, set, length-append}
+use lib.Seq.{take-suc-set}
+use Rattle.std.proofs.Common.{length-take}
+use Rattle.std.specs.Int.{from_bool}
+use Rattle.std.specs.Prelude.{Option, Some, None}
+use Rattle.std.proofs.lemmas.Bool.{le-leb, lt-leb}
+use Rattle.paper.proofs.Tests.{test}
+use Rattle.desk.specs.Stretches.{line_feed, on_first, lines_of, bare_length, bare}
+use Rattle.desk.specs.Rows.{Listed, row_of, row_told}
+use Rattle.desk.specs.Codes.{Listing, rows, bad_value, too_many, after, listing, codes, joined, ends_from, values_of, marks_of, Held, Taken}
+use Rattle.desk.specs.declared.rows.Row.{Row}
 
--- ---- the first line and the others
+-- ---- how many lines there are, and how many bytes in them
 
-first_line : (xs : List ℕ) → 0 < length xs → lines_of xs ≡ take (ahead line_feed xs) xs ∷ lines_of (drop (suc (ahead line_feed xs)) xs)
-unfolding lines_of ahead
-first_line [] l = absurd (not-suc-le-zero l)
-first_line (x ∷ []) l = test (eqb x line_feed) (λ e. rw e) (λ e. rw e)
-first_line (x ∷ y ∷ ys) l =
-    let rest : lines_of (y ∷ ys) ≡ take (ahead line_feed (y ∷ ys)) (y ∷ ys) ∷ lines_of (drop (suc (ahead line_feed (y ∷ ys))) (y ∷ ys)) =
-    first_line (y ∷ ys) (omega arith) in
-    test (eqb x line_feed) (λ e. rw e) (λ e. rw e (ap (on_first x) rest))
+abbrev pub bytes_in : List (List ℕ) → ℕ
+bytes_in [] = 0
+bytes_in (l ∷ ls) = length l + bytes_in ls
 
--- the lines from a place on: the one up to its end, and those behind that
-lines_from : (file : List ℕ) (at stop : ℕ) → at < length file → stop ≡ line_end file at
-    → lines_of (drop at file) ≡ take (stop - at) (drop at file) ∷ lines_of (drop (stop + 1) file)
-lines_from file at stop l e =
-    let n = ahead line_feed (drop at file) in
-    let s : stop - at ≡ n = omega arith in
-    let t : at + suc n ≡ stop + 1 = omega arith in
-    rw (s) (first_line (drop at file) (omega (arith, length-drop at file)) ∙ ap (λ (m : List ℕ). take n (drop at file) ∷ lines_of m) (drop-drop (suc n) at file ∙ ap (λ (k : ℕ). drop k file) t))
+count_first : (x : ℕ) (ls : List (List ℕ)) → length (on_first x ls) ≤ suc (length ls)
+count_first x [] = omega arith
+count_first x (l ∷ ls) = omega arith
+
+bytes_first : (x : ℕ) (ls : List (List ℕ)) → bytes_in (on_first x ls) ≡ suc (bytes_in ls)
+bytes_first x [] = refl
+bytes_first x (l ∷ ls) = omega arith
+
+count_most : (xs : List ℕ) → length (lines_of xs) ≤ length xs
+unfolding lines_of
+count_most [] = omega arith
+count_most (x ∷ xs) =
+    test (eqb x line_feed) (λ e. rw e (omega (arith, count_most xs))) (λ e. rw e (omega (arith, count_most xs, count_first x (lines_of xs))))
+
+bytes_most : (xs : List ℕ) → bytes_in (lines_of xs) ≤ length xs
+unfolding lines_of
+bytes_most [] = omega arith
+bytes_most (x ∷ xs) =
+    test (eqb x line_feed) (λ e. rw e (omega (arith, bytes_most xs))) (λ e. rw e (omega (arith, bytes_most xs, bytes_first x (lines_of xs))))
+
+pub bare_most : (line : List ℕ) → length (bare line) ≤ length line
+bare_most line = most (bare_length line) line where
+  most : (n : ℕ) (xs : List ℕ) → length (take n xs) ≤ length xs
+  most n xs = omega (arith, length-take n xs)
 
 -- ---- rows behind others
 
@@ -69,107 +81,86 @@ marks_one : (rs : List Listed) (r : Listed) → marks_of (rs ++ (r ∷ [])) ≡ 
 marks_one [] r = refl
 marks_one (q ∷ rs) r = ap (λ (more : List ℕ). q.mark ∷ more) (marks_one rs r)
 
--- ---- one row more in the tables
+-- the first slots of the tables hold these rows: count of them, their codes up to end
+pub record Filled (rs : List Listed) (count end : ℕ) (bytes ends values marks : List ℕ) : Type 0 where
+  pub counted : length rs ≡ count
+  pub sized : length (joined rs) ≡ end
+  pub held : Held rs (take end bytes) (take count ends) (take count values) (take count marks)
 
-module _ (rs : List Listed) (r : Listed) (count end : ℕ) (bytes more ends values marks : List ℕ) (h : Held rs count end bytes ends values marks) where
-  held_one : (end' : ℕ) → end' ≡ end + length r.code → take end' more ≡ take end bytes ++ r.code
+module _ (rs : List Listed) (r : Listed) (count end : ℕ) (bytes more ends values marks : List ℕ) (h : Filled rs count end bytes ends values marks) where
+  filled_one : (end' : ℕ) → end' ≡ end + length r.code → take end' more ≡ take end bytes ++ r.code
       → count < length ends → count < length values → count < length marks
-      → Held (rs ++ (r ∷ [])) (count + 1) end' more (set ends count end') (set values count r.value) (set marks count r.mark)
+      → Filled (rs ++ (r ∷ [])) (count + 1) end' more (set ends count end') (set values count r.value) (set marks count r.mark)
   unfolding joined
-  held_one end' e b m n o =
+  filled_one end' e b m n o =
       record {
         counted = length-append rs (r ∷ []) ∙ ap (λ (k : ℕ). k + 1) h.counted;
         sized = ap length (joined_one rs r) ∙ length-append (joined rs) r.code ∙ ap (λ (k : ℕ). k + length r.code) h.sized ∙ sym e;
-        bytes_are = b ∙ ap (λ (s : List ℕ). s ++ r.code) h.bytes_are ∙ sym (joined_one rs r);
-        ends_are =
-            let t : 0 + length (joined rs) + length r.code ≡ end' = omega (arith, h.sized) in
-            rw (add-one count, take-suc-set ends count end' m, ends_one 0 rs r, t) (ap (λ (s : List ℕ). s ++ (end' ∷ [])) h.ends_are);
-        values_are = rw (add-one count, take-suc-set values count r.value n, values_one rs r) (ap (λ (s : List ℕ). s ++ (r.value ∷ [])) h.values_are);
-        marks_are = rw (add-one count, take-suc-set marks count r.mark o, marks_one rs r) (ap (λ (s : List ℕ). s ++ (r.mark ∷ [])) h.marks_are);
+        held =
+            record {
+              bytes_are = b ∙ ap (λ (s : List ℕ). s ++ r.code) h.held.bytes_are ∙ sym (joined_one rs r);
+              ends_are =
+                  let t : 0 + length (joined rs) + length r.code ≡ end' = omega (arith, h.sized) in
+                  rw (add-one count, take-suc-set ends count end' m, ends_one 0 rs r, t) (ap (λ (s : List ℕ). s ++ (end' ∷ [])) h.held.ends_are);
+              values_are =
+                  rw (add-one count, take-suc-set values count r.value n, values_one rs r) (ap (λ (s : List ℕ). s ++ (r.value ∷ [])) h.held.values_are);
+              marks_are = rw (add-one count, take-suc-set marks count r.mark o, marks_one rs r) (ap (λ (s : List ℕ). s ++ (r.mark ∷ [])) h.held.marks_are);
+            };
       }
-
--- ---- the answer for a line, taken apart
-
-pub inside_code : (at stop : ℕ) (r : Line) (m v from to : ℕ) → Inside at stop r → r ≡ line.Code m v from to → (at ≤ from) × (from ≤ to) × (to ≤ stop)
-inside_code at stop r m v from to i e = subst (λ (x : Line). Inside at stop x) e i
-
-told_code : (file : List ℕ) (r : Line) (m v from to : ℕ) (said : Option Listed) → line_told file r ≡ said → r ≡ line.Code m v from to
-    → said ≡ some (record { mark = m; value = v; code = take (to - from) (drop from file) })
-told_code file r m v from to said t e = sym t ∙ ap (line_told file) e
-
-told_bad : (file : List ℕ) (r : Line) (said : Option Listed) → line_told file r ≡ said → r ≡ line.BadValue → said ≡ none
-told_bad file r said t e = sym t ∙ ap (line_told file) e
 
 -- ---- the loop
 
--- so far: the lines before `at` gave rows, which the tables hold; and what they and the lines that are left say is what the list says
-pub record Reading (room : ℕ) (file : List ℕ) (at count end : ℕ) (bytes ends values marks : List ℕ) : Type 0 where
+-- so far: the lines before those that are left gave rows, which the tables hold; and what they and the lines that are left say is what the list says
+pub record Reading (room : ℕ) (file : List ℕ) (left : List (List ℕ)) (count end : ℕ) (bytes ends values marks : List ℕ) : Type 0 where
   pub done : List Listed
-  pub says : after done (listing room count (lines_of (drop at file))) ≡ codes room file
-  pub held : Held done count end bytes ends values marks
-  pub fewer : count ≤ at
-  pub shorter : end ≤ at
-  pub within : at ≤ suc (length file)
+  pub says : after done (listing room count left) ≡ codes room file
+  pub filled : Filled done count end bytes ends values marks
+  pub fewer : count + length left ≤ length file
+  pub shorter : end + bytes_in left ≤ length file
 
-pub begun : (room : ℕ) (file bytes ends values marks : List ℕ) → Reading room file 0 0 0 bytes ends values marks
+pub begun : (room : ℕ) (file bytes ends values marks : List ℕ) → Reading room file (lines_of file) 0 0 bytes ends values marks
 unfolding joined ends_from
 begun room file bytes ends values marks =
     record {
       done = [];
       says = after_nothing (codes room file);
-      held = record { counted = refl; sized = refl; bytes_are = refl; ends_are = refl; values_are = refl; marks_are = refl };
-      fewer = omega arith;
-      shorter = omega arith;
-      within = omega arith;
+      filled = record { counted = refl; sized = refl; held = record { bytes_are = refl; ends_are = refl; values_are = refl; marks_are = refl } };
+      fewer = omega (arith, count_most file);
+      shorter = omega (arith, bytes_most file);
     }
 
-module _ (room : ℕ) (file : List ℕ) (at count end : ℕ) (bytes ends values marks : List ℕ) (r : Reading room file at count end bytes ends values marks) where
-  pub all_read : length file ≤ at → Taken (codes room file) count end bytes ends values marks
-  unfolding lines_of listing
-  all_read l =
-      record {
-        taken = r.done;
-        says = sym (rw (drop_of_length-le file l, append-nil r.done) at r.says);
-        held = r.held;
-      }
-
-  pub full : at < length file → (stop : ℕ) → stop ≡ line_end file at → room ≤ count → codes room file ≡ too_many
+module _ (room : ℕ) (file : List ℕ) (left : List (List ℕ)) (count end : ℕ) (bytes ends values marks : List ℕ) (r : Reading room file left count end bytes ends values marks) where
+  pub all_read : left ≡ [] → Taken (codes room file) (take end bytes) (take count ends) (take count values) (take count marks)
   unfolding listing
-  full l stop e m = sym (rw (lines_from file at stop l e, le_leb room count m) at r.says)
+  all_read e = record { taken = r.done; says = sym (rw (e, append-nil r.done) at r.says); held = r.filled.held }
 
-  pub bad_line : at < length file → (stop : ℕ) → stop ≡ line_end file at → count < room
-      → (answer : Line) → line_told file answer ≡ row_of count (bare (take (stop - at) (drop at file))) → answer ≡ line.BadValue
-      → codes room file ≡ bad_value count
-  unfolding listing
-  bad_line l stop e m answer t q =
-      let n : row_of count (bare (take (stop - at) (drop at file))) ≡ none = told_bad file answer (row_of count (bare (take (stop - at) (drop at file)))) t q in
-      sym (rw (lines_from file at stop l e, lt_leb room count m, n) at r.says)
+  module _ (line : List ℕ) (rest : List (List ℕ)) (l : left ≡ line ∷ rest) where
+    pub full : room ≤ count → codes room file ≡ too_many
+    unfolding listing
+    full m = sym (rw (l, le-leb room count m) at r.says)
 
-  one_row_more : at < length file → (stop : ℕ) → stop ≡ line_end file at → stop ≤ length file → count < room
-      → (row : Listed) → row_of count (bare (take (stop - at) (drop at file))) ≡ some row → length row.code ≤ stop - at
-      → (end' : ℕ) (more : List ℕ) → end' ≡ end + length row.code → take end' more ≡ take end bytes ++ row.code
-      → count < length ends → count < length values → count < length marks
-      → Reading room file (stop + 1) (count + 1) end' more (set ends count end') (set values count row.value) (set marks count row.mark)
-  unfolding listing
-  one_row_more l stop e i m row n s end' more p b x y z =
-      record {
-        done = r.done ++ (row ∷ []);
-        says =
-            rw (add-one count)
-            (after_one r.done row (listing room (suc count) (lines_of (drop (stop + 1) file))) ∙ rw (lines_from file at stop l e, lt_leb room count m, n) at r.says);
-        held = held_one r.done row count end bytes more ends values marks r.held end' p b x y z;
-        fewer = omega (arith, r.fewer);
-        shorter = omega (arith, r.shorter);
-        within = omega arith;
-      }
+    pub bad_line : count < room → (answer : Option Row) → row_told answer ≡ row_of count (bare line) → answer ≡ None → codes room file ≡ bad_value count
+    unfolding listing
+    bad_line m answer t q =
+        let n : row_of count (bare line) ≡ None = sym t ∙ ap row_told q in
+        sym (rw (l, lt-leb room count m, n) at r.says)
 
-  -- the same, by the answer for the line
-  pub one_more : at < length file → (stop : ℕ) → stop ≡ line_end file at → stop ≤ length file → count < room
-      → (answer : Line) (mark value from to : ℕ) → line_told file answer ≡ row_of count (bare (take (stop - at) (drop at file)))
-      → answer ≡ line.Code mark value from to → length (take (to - from) (drop from file)) ≤ stop - at
-      → (end' : ℕ) (more : List ℕ) → end' ≡ end + length (take (to - from) (drop from file)) → take end' more ≡ take end bytes ++ take (to - from) (drop from file)
-      → count < length ends → count < length values → count < length marks
-      → Reading room file (stop + 1) (count + 1) end' more (set ends count end') (set values count value) (set marks count mark)
-  one_more l stop e i m answer mark value from to t q s end' more p b x y z =
-      one_row_more l stop e i m (record { mark = mark; value = value; code = take (to - from) (drop from file) })
-      (told_code file answer mark value from to (row_of count (bare (take (stop - at) (drop at file)))) t q) s end' more p b x y z
+    pub line_fits : end + length line ≤ length file
+    line_fits = omega (arith, r.shorter, ap bytes_in l)
+
+    -- a row more, by the answer for its line
+    pub one_more : count < room → (answer : Option Row) (row : Row) → row_told answer ≡ row_of count (bare line) → answer ≡ Some row
+        → length row.code.now ≤ length line → (end' : ℕ) (more : List ℕ) → end' ≡ end + length row.code.now → take end' more ≡ take end bytes ++ row.code.now
+        → count < length ends → count < length values → count < length marks
+        → Reading room file rest (count + 1) end' more (set ends count end') (set values count row.value) (set marks count (from_bool row.hazard))
+    unfolding listing
+    one_more m answer row t q s end' more p b x y z =
+        let listed : Listed = record { mark = from_bool row.hazard; value = row.value; code = row.code.now } in
+        let n : row_of count (bare line) ≡ Some listed = sym t ∙ ap row_told q in
+        record {
+          done = r.done ++ (listed ∷ []);
+          says = rw (add-one count) (after_one r.done listed (listing room (suc count) rest) ∙ rw (l, lt-leb room count m, n) at r.says);
+          filled = filled_one r.done listed count end bytes more ends values marks r.filled end' p b x y z;
+          fewer = omega (arith, r.fewer, ap length l);
+          shorter = omega (arith, r.shorter, ap bytes_in l);
+        }

@@ -1,17 +1,17 @@
 -- Laws of line and column.
-use mathlib.Core.Path.{◌≡◌, refl, sym, ap, ◌∙◌}
+use mathlib.Core.Path.{◌≡◌, refl, ap, ◌∙◌}
 use mathlib.Core.List.{List, [], ◌∷◌, ◌++◌}
-use Prim.Native.Nat.{ℕ, suc, ◌+◌, ◌≤◌}
+use Prim.Native.Nat.{ℕ, suc, ◌+◌, ◌≤◌, ◌<◌}
 use native.Mathlib.Numerals.{add-one}
 use native.Mathlib.Omega.{arith}
 use lib.Dec.{eqb}
 use lib.ListN.{length, take, get_or}
 use lib.Seq.{take-suc, length-take-le}
 use Rattle.paper.specs.Lists.{pick}
-use Rattle.paper.proofs.Tests.{test, eq_eqb, ne_eqb}
+use Rattle.std.proofs.lemmas.Bool.{eq-eqb, ne_eqb}
+use Rattle.paper.proofs.Tests.{test}
 use Rattle.desk.specs.Stretches.{line_feed}
-use Rattle.desk.specs.Places.{feeds_from, since_feed, Right, Next}
-use Rattle.desk.specs.declared.places.Place.{Place}
+use Rattle.desk.specs.Places.{feeds_from, since_feed, line_at, column_at}
 
 -- ---- one byte more
 
@@ -37,39 +37,39 @@ unfolding since_feed
 since_most n [] = omega arith
 since_most n (x ∷ xs) = test (eqb x line_feed) (λ e. rw e (omega (arith, since_most 0 xs))) (λ e. rw e (omega (arith, since_most (suc n) xs)))
 
-pub line_most : (sheet : List ℕ) (p : Place) → Right sheet p → p.line ≤ suc (length sheet)
-line_most sheet p r = omega (arith, r.line_is, feeds_most 0 (take p.at sheet), length-take-le p.at sheet r.inside, r.inside)
-
-pub column_most : (sheet : List ℕ) (p : Place) → Right sheet p → p.column ≤ suc (length sheet)
-column_most sheet p r = omega (arith, r.column_is, since_most 0 (take p.at sheet), length-take-le p.at sheet r.inside, r.inside)
-
 -- ---- the first place, and the next
 
-pub right_first : (sheet : List ℕ) → Right sheet (record { at = 0; line = 1; column = 1 })
-unfolding feeds_from since_feed
-right_first sheet = record { inside = omega arith; line_is = refl; column_is = refl }
+pub line_first : (sheet : List ℕ) → 1 ≡ line_at sheet 0
+unfolding feeds_from
+line_first sheet = refl
 
-module _ (sheet : List ℕ) (p : Place) (b : ℕ) (r : Right sheet p) (n : Next sheet p.at b) where
-  pub right_feed : b ≡ line_feed → Right sheet (record { at = p.at + 1; line = p.line + 1; column = 1 })
-  right_feed e =
-      let f : get_or sheet p.at 0 ≡ line_feed = sym n.byte_is ∙ e in
-      let t : take (p.at + 1) sheet ≡ take p.at sheet ++ (get_or sheet p.at 0 ∷ []) = rw (add-one p.at) (take-suc sheet p.at 0 n.there) in
-      record {
-        inside = omega (arith, n.there);
-        line_is =
-            rw (t, feeds_last 0 (take p.at sheet) (get_or sheet p.at 0), eq_eqb (get_or sheet p.at 0) line_feed f)
-            (add-one p.line ∙ ap suc r.line_is);
-        column_is = rw (t, since_last 0 (take p.at sheet) (get_or sheet p.at 0), eq_eqb (get_or sheet p.at 0) line_feed f);
-      }
+pub column_first : (sheet : List ℕ) → 1 ≡ column_at sheet 0
+unfolding since_feed
+column_first sheet = refl
 
-  pub right_byte : (b ≡ line_feed → ⊥) → Right sheet (record { at = p.at + 1; line = p.line; column = p.column + 1 })
-  right_byte e =
-      let f : get_or sheet p.at 0 ≡ line_feed → ⊥ = λ q. e (n.byte_is ∙ q) in
-      let t : take (p.at + 1) sheet ≡ take p.at sheet ++ (get_or sheet p.at 0 ∷ []) = rw (add-one p.at) (take-suc sheet p.at 0 n.there) in
-      record {
-        inside = omega (arith, n.there);
-        line_is = rw (t, feeds_last 0 (take p.at sheet) (get_or sheet p.at 0), ne_eqb (get_or sheet p.at 0) line_feed f) r.line_is;
-        column_is =
-            rw (t, since_last 0 (take p.at sheet) (get_or sheet p.at 0), ne_eqb (get_or sheet p.at 0) line_feed f)
-            (add-one p.column ∙ ap suc r.column_is);
-      }
+module _ (sheet : List ℕ) (at : ℕ) (inside : at < length sheet) where
+  one_more : take (at + 1) sheet ≡ take at sheet ++ (get_or sheet at 0 ∷ [])
+  one_more = rw (add-one at) (take-suc sheet at 0 inside)
+
+  size_before : length (take at sheet) ≡ at
+  size_before = length-take-le at sheet (omega (arith, inside))
+
+  module _ (line : ℕ) (is : line ≡ line_at sheet at) where
+    pub line_most : line ≤ length sheet
+    line_most = omega (arith, is, feeds_most 0 (take at sheet), size_before, inside)
+
+    pub line_feed_next : get_or sheet at 0 ≡ line_feed → line + 1 ≡ line_at sheet (at + 1)
+    line_feed_next f = rw (one_more, feeds_last 0 (take at sheet) (get_or sheet at 0), eq-eqb (get_or sheet at 0) line_feed f) (add-one line ∙ ap suc is)
+
+    pub line_byte_next : (get_or sheet at 0 ≡ line_feed → ⊥) → line ≡ line_at sheet (at + 1)
+    line_byte_next f = rw (one_more, feeds_last 0 (take at sheet) (get_or sheet at 0), ne_eqb (get_or sheet at 0) line_feed f) is
+
+  module _ (column : ℕ) (is : column ≡ column_at sheet at) where
+    pub column_most : column ≤ length sheet
+    column_most = omega (arith, is, since_most 0 (take at sheet), size_before, inside)
+
+    pub column_byte_next : (get_or sheet at 0 ≡ line_feed → ⊥) → column + 1 ≡ column_at sheet (at + 1)
+    column_byte_next f = rw (one_more, since_last 0 (take at sheet) (get_or sheet at 0), ne_eqb (get_or sheet at 0) line_feed f) (add-one column ∙ ap suc is)
+
+  pub column_feed_next : get_or sheet at 0 ≡ line_feed → 1 ≡ column_at sheet (at + 1)
+  column_feed_next f = rw (one_more, since_last 0 (take at sheet) (get_or sheet at 0), eq-eqb (get_or sheet at 0) line_feed f)

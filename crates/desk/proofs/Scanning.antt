@@ -1,86 +1,83 @@
 -- Laws of stretches of bytes: what the loops over them keep and end with.
-use mathlib.Core.Path.{◌≡◌, refl, sym, ap}
-use mathlib.Core.Bool.{true, false}
-use mathlib.Core.List.{List, [], ◌∷◌, ◌++◌, append_assoc, append-nil}
-use Prim.Native.Nat.{ℕ, suc, ◌+◌, ◌-◌, ◌≤◌, ◌<◌}
-use native.Mathlib.Numerals.{add-one}
+use mathlib.Core.Path.{◌≡◌, refl, sym, ap, ◌∙◌}
+use mathlib.Core.Bool.{Bool, true, false, ◌&&◌, false≢true}
+use mathlib.Core.List.{List, [], ◌∷◌}
+use Prim.Native.Nat.{ℕ, suc, ◌+◌, ◌-◌, ◌≤◌, ◌<◌, min}
+use native.Mathlib.Nat.{not-suc-le-zero}
 use native.Mathlib.Omega.{arith}
 use lib.Dec.{eqb}
-use lib.ListN.{length, take, drop, get_or, set, drop_of_length-le}
-use lib.Seq.{drop-cons, take-suc, take-suc-set, take_all}
+use lib.ListN.{length, take, drop, drop_of_length-le, length-drop}
+use lib.Seq.{take_all}
 use Rattle.paper.specs.Lists.{same}
-use Rattle.paper.proofs.Tests.{test, eq_eqb, ne_eqb}
-use Rattle.desk.specs.Stretches.{carriage_return, ahead, bare_length}
+use Rattle.std.proofs.lemmas.Bool.{ltb-false, ltb-true, ne_eqb}
+use Rattle.paper.proofs.Tests.{test, clash}
+use Rattle.std.specs.Prelude.{position, unwrap_or, nat_eq, nat_lt, cond, Some, None}
+use Rattle.std.specs.List.{position_or_len}
+use Rattle.std.specs.Cmp.Lexicographic.{pointwise}
+use Rattle.desk.specs.Stretches.{line_feed, ahead, on_first, lines_of}
 
 -- ---- up to a byte
 
-module _ (b : ℕ) (xs : List ℕ) (i : ℕ) where
-  pub ahead_here : i < length xs → get_or xs i 0 ≡ b → ahead b (drop i xs) ≡ 0
+module _ (b : ℕ) where
+  ahead_len : (xs : List ℕ) → position_or_len (λ x. nat_eq x b) xs ≡ ahead b xs
   unfolding ahead
-  ahead_here l e = rw (drop-cons xs i 0 l, eq_eqb (get_or xs i 0) b e)
+  ahead_len [] = refl
+  ahead_len (x ∷ xs) = test (eqb x b) (λ e. rw e) (λ e. rw (e, ahead_len xs) (omega arith))
 
-  pub ahead_next : i < length xs → (get_or xs i 0 ≡ b → ⊥) → ahead b (drop i xs) ≡ suc (ahead b (drop (i + 1) xs))
+  pub ahead_most : (xs : List ℕ) → ahead b xs ≤ length xs
   unfolding ahead
-  ahead_next l e = rw (add-one i, drop-cons xs i 0 l, ne_eqb (get_or xs i 0) b e)
+  ahead_most [] = omega arith
+  ahead_most (x ∷ xs) = test (eqb x b) (λ e. rw e (omega arith)) (λ e. rw e (omega (arith, ahead_most xs)))
 
-  pub ahead_none : length xs ≤ i → ahead b (drop i xs) ≡ 0
-  unfolding ahead
-  ahead_none l = rw (drop_of_length-le xs l)
+  pub ahead_position : (xs : List ℕ) → unwrap_or (position (λ x. nat_eq x b) xs) (length xs) ≡ ahead b xs
+  ahead_position xs = rw (ahead_len xs) (by (ahead b xs) (length xs) (ahead_most xs)) where
+    by : (n m : ℕ) → n ≤ m → unwrap_or (cond (nat_lt n m) (Some n) None) m ≡ n
+    by n m l = test (nat_lt n m) (λ e. rw e) (λ e. rw e (omega (arith, l, ltb-false n m e)))
 
-pub ahead_most : (b : ℕ) (xs : List ℕ) → ahead b xs ≤ length xs
-unfolding ahead
-ahead_most b [] = omega arith
-ahead_most b (x ∷ xs) = test (eqb x b) (λ e. rw e (omega arith)) (λ e. rw e (omega (arith, ahead_most b xs)))
+-- ---- the same bytes, by the library's word
 
--- ---- the same bytes
-
-pub unequal_lengths : (xs ys : List ℕ) → (length xs ≡ length ys → ⊥) → false ≡ same xs ys
+pub same_pointwise : (xs ys : List ℕ) → pointwise nat_eq xs ys ≡ same xs ys
 unfolding same
-unequal_lengths [] [] h = absurd (h refl)
-unequal_lengths [] (y ∷ ys) h = refl
-unequal_lengths (x ∷ xs) [] h = refl
-unequal_lengths (x ∷ xs) (y ∷ ys) h =
-    let rest : false ≡ same xs ys = unequal_lengths xs ys (λ e. h (ap suc e)) in
-    test (eqb x y) (λ e. rw e rest) (λ e. rw e)
+same_pointwise [] [] = refl
+same_pointwise [] (y ∷ ys) = refl
+same_pointwise (x ∷ xs) [] = refl
+same_pointwise (x ∷ xs) (y ∷ ys) = ap (λ (rest : Bool). eqb x y && rest) (same_pointwise xs ys)
 
-module _ (xs ys : List ℕ) (i : ℕ) where
-  pub same_not : i < length xs → i < length ys → (get_or xs i 0 ≡ get_or ys i 0 → ⊥) → same (drop i xs) (drop i ys) ≡ false
-  unfolding same
-  same_not l m e = rw (drop-cons xs i 0 l, drop-cons ys i 0 m, ne_eqb (get_or xs i 0) (get_or ys i 0) e)
+-- ---- the first line and the others
 
-  pub same_next : i < length xs → i < length ys → get_or xs i 0 ≡ get_or ys i 0 → same (drop (i + 1) xs) (drop (i + 1) ys) ≡ same (drop i xs) (drop i ys)
-  unfolding same
-  same_next l m e = rw (add-one i, drop-cons xs i 0 l, drop-cons ys i 0 m, eq_eqb (get_or xs i 0) (get_or ys i 0) e)
+pub first_line : (xs : List ℕ) → 0 < length xs → lines_of xs ≡ take (ahead line_feed xs) xs ∷ lines_of (drop (suc (ahead line_feed xs)) xs)
+unfolding lines_of ahead
+first_line [] l = absurd (not-suc-le-zero l)
+first_line (x ∷ []) l = test (eqb x line_feed) (λ e. rw e) (λ e. rw e)
+first_line (x ∷ y ∷ ys) l =
+    let rest : lines_of (y ∷ ys) ≡ take (ahead line_feed (y ∷ ys)) (y ∷ ys) ∷ lines_of (drop (suc (ahead line_feed (y ∷ ys))) (y ∷ ys)) =
+    first_line (y ∷ ys) (omega arith) in
+    test (eqb x line_feed) (λ e. rw e) (λ e. rw e (ap (on_first x) rest))
 
-  pub same_all : length xs ≤ i → length ys ≤ i → same (drop i xs) (drop i ys) ≡ true
-  unfolding same
-  same_all l m = rw (drop_of_length-le xs l, drop_of_length-le ys m)
+pub no_line : (xs : List ℕ) → nat_eq (length xs) 0 ≡ true → lines_of xs ≡ []
+unfolding lines_of
+no_line [] e = refl
+no_line (x ∷ xs) e = clash e (ne_eqb (length (x ∷ xs)) 0 (λ q. omega arith))
 
--- ---- a line without its return
+-- the first line, and the rest behind its line feed
+pub line_and_rest : (xs : List ℕ) (size next : ℕ) → nat_eq (length xs) 0 ≡ false → size ≡ ahead line_feed xs → next ≡ min (size + 1) (length xs)
+    → lines_of xs ≡ take size xs ∷ lines_of (take (length xs - next) (drop next xs))
+line_and_rest xs size next e s n =
+    let full : 0 < length xs = some_bytes xs e in
+    let rest : take (length xs - next) (drop next xs) ≡ drop (suc size) xs = test (nat_lt size (length xs)) (λ l. below (ltb-true size (length xs) l)) (λ l. past (ltb-false size (length xs) l)) in
+    first_line xs full ∙ rw (← s, rest) refl where
+      some_bytes : (ys : List ℕ) → nat_eq (length ys) 0 ≡ false → 0 < length ys
+      some_bytes [] h = absurd (false≢true (sym h))
+      some_bytes (y ∷ ys) h = omega arith
 
-pub bare_none : (line : List ℕ) → length line ≡ 0 → 0 ≡ bare_length line
-bare_none [] e = refl
-bare_none (x ∷ xs) e = absurd (omega arith)
+      whole : (k : ℕ) → take (length xs - k) (drop k xs) ≡ drop k xs
+      whole k = take_all (length xs - k) (drop k xs) (omega (arith, length-drop k xs))
 
-module _ (line : List ℕ) where
-  pub bare_less : get_or line (length line - 1) 0 ≡ carriage_return → length line - 1 ≡ bare_length line
-  bare_less e = rw (eq_eqb (get_or line (length line - 1) 0) carriage_return e)
+      below : size < length xs → take (length xs - next) (drop next xs) ≡ drop (suc size) xs
+      below l = let k : next ≡ suc size = omega (arith, n) in rw k (whole (suc size))
 
-  pub bare_all : (get_or line (length line - 1) 0 ≡ carriage_return → ⊥) → length line ≡ bare_length line
-  bare_all e = rw (ne_eqb (get_or line (length line - 1) 0) carriage_return e)
-
--- ---- a part behind others
-
-pub appended_none : (bytes part : List ℕ) (end : ℕ) → take (end + 0) bytes ≡ take end bytes ++ take 0 part
-appended_none bytes part end = let e : end + 0 ≡ end = omega arith in rw e (sym (append-nil (take end bytes)))
-
-pub appended_next : (before bytes part : List ℕ) (end i : ℕ) → end + i < length bytes → i < length part
-    → take (end + i) bytes ≡ take end before ++ take i part
-    → take (end + (i + 1)) (set bytes (end + i) (get_or part i 0)) ≡ take end before ++ take (i + 1) part
-appended_next before bytes part end i l m e =
-    let s : end + (i + 1) ≡ suc (end + i) = omega arith in
-    rw (s, add-one i, take-suc-set bytes (end + i) (get_or part i 0) l, take-suc part i 0 m, e) (append_assoc (take end before) (take i part) (get_or part i 0 ∷ []))
-
-pub appended_all : (before bytes part : List ℕ) (end i : ℕ) → i ≡ length part → take (end + i) bytes ≡ take end before ++ take i part
-    → take (end + length part) bytes ≡ take end before ++ part
-appended_all before bytes part end i l e = rw (← l, e, take_all i part (omega arith))
+      past : length xs ≤ size → take (length xs - next) (drop next xs) ≡ drop (suc size) xs
+      past l =
+          let k : next ≡ length xs = omega (arith, n) in
+          let m : length xs ≤ suc size = omega (arith, l) in
+          rw k (whole (length xs) ∙ drop_of_length-le xs (omega arith) ∙ sym (drop_of_length-le xs m))

@@ -1,13 +1,11 @@
 -- The whole list: the rows of its lines, or the first line that is bad with its reason; and how the tables hold the rows.
-use Rattle.std.specs.Prelude.{◌≡◌, List, [], ◌∷◌, ◌++◌, map, ℕ, suc, ◌+◌, ◌-◌, ◌≤◌, leb, length, take, drop}
-use Rattle.std.proofs.Math.Option.{Option, none, some}
+use Rattle.std.specs.Prelude.{◌≡◌, List, [], ◌∷◌, ◌++◌, map, ℕ, suc, ◌+◌, leb, length, Option, Some, None, Result, Ok, Err}
 use Rattle.paper.specs.Lists.{pick}
 use Rattle.desk.specs.Stretches.{lines_of, bare}
 use Rattle.desk.specs.Rows.{Listed, row_of}
-use Rattle.desk.specs.declared.codes.Line.{Line}
-use Rattle.desk.specs.declared.codes.Line.TheVariants as line
 use Rattle.desk.specs.declared.codes.Codes.{Codes}
-use Rattle.desk.specs.declared.codes.Codes.TheVariants.{Read, BadValue, TooMany}
+use Rattle.desk.specs.declared.codes.Fault.{Fault}
+use Rattle.desk.specs.declared.codes.Fault.TheVariants.{BadValue, TooMany}
 
 -- what a list says: its rows; or the first line, from 0, whose value is bad; or that there are more lines than rows are taken
 pub data Listing : Type 0 where
@@ -23,8 +21,8 @@ after rs too_many = too_many
 
 -- a row, if its line has one, in front of what the rest says
 abbrev pub first : ℕ → Option Listed → Listing → Listing
-first k none rest = bad_value k
-first k (some r) rest = after (r ∷ []) rest
+first k None rest = bad_value k
+first k (Some r) rest = after (r ∷ []) rest
 
 -- what the lines from line k on say, where so many rows are taken
 unfoldable pub listing : ℕ → ℕ → List (List ℕ) → Listing
@@ -53,33 +51,21 @@ values_of rs = map (λ (r : Listed). r.value) rs
 abbrev pub marks_of : List Listed → List ℕ
 marks_of rs = map (λ (r : Listed). r.mark) rs
 
--- the first slots of the tables hold these rows: count of them, their codes up to end
-pub record Held (rs : List Listed) (count end : ℕ) (bytes ends values marks : List ℕ) : Type 0 where
-  pub counted : length rs ≡ count
-  pub sized : length (joined rs) ≡ end
-  pub bytes_are : take end bytes ≡ joined rs
-  pub ends_are : take count ends ≡ ends_from 0 rs
-  pub values_are : take count values ≡ values_of rs
-  pub marks_are : take count marks ≡ marks_of rs
+-- the tables hold these rows
+pub record Held (rs : List Listed) (bytes ends values marks : List ℕ) : Type 0 where
+  pub bytes_are : bytes ≡ joined rs
+  pub ends_are : ends ≡ ends_from 0 rs
+  pub values_are : values ≡ values_of rs
+  pub marks_are : marks ≡ marks_of rs
 
 -- the list says rows, and the tables hold them
-pub record Taken (said : Listing) (count end : ℕ) (bytes ends values marks : List ℕ) : Type 0 where
+pub record Taken (said : Listing) (bytes ends values marks : List ℕ) : Type 0 where
   pub taken : List Listed
   pub says : said ≡ rows taken
-  pub held : Held taken count end bytes ends values marks
+  pub held : Held taken bytes ends values marks
 
--- the answer of the code, with the tables as it left them, is what the list says
-abbrev pub Says : Listing → List ℕ → List ℕ → List ℕ → List ℕ → Codes → Type 0
-Says said bytes ends values marks (Read count end) = Taken said count end bytes ends values marks
-Says said bytes ends values marks (BadValue k) = said ≡ bad_value k
-Says said bytes ends values marks TooMany = said ≡ too_many
-
--- the answer of the code for a line: its code stands in the file from one place up to another
-abbrev pub line_told : List ℕ → Line → Option Listed
-line_told file (line.Code m v from to) = some (record { mark = m; value = v; code = take (to - from) (drop from file) })
-line_told file line.BadValue = none
-
--- the code stands within its line
-abbrev pub Inside : ℕ → ℕ → Line → Type 0
-Inside at stop (line.Code m v from to) = (at ≤ from) × (from ≤ to) × (to ≤ stop)
-Inside at stop line.BadValue = Unit {0}
+-- the answer of the code is what the list says
+abbrev pub Says : Listing → Result Codes Fault → Type 0
+Says said (Ok c) = Taken said c.bytes.now c.ends.now c.values.now c.marks.now
+Says said (Err (BadValue k)) = said ≡ bad_value k
+Says said (Err TooMany) = said ≡ too_many

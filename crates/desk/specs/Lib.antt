@@ -6,3 +6,4 @@ pub mod Places
 pub mod Hazards
 pub mod Claims
 pub mod Shown
+pub mod Words

@@ -1,9 +1,6 @@
 -- The number that digits spell.
-use Rattle.std.specs.Prelude.{Bool, true, ◌&&◌, not, List, [], ◌∷◌, ℕ, ◌+◌, ◌-◌, ◌*◌, leb}
-use Rattle.std.proofs.Math.Option.{Option, none, some}
+use Rattle.std.specs.Prelude.{Bool, true, ◌&&◌, not, List, [], ◌∷◌, ℕ, ◌+◌, ◌-◌, ◌*◌, leb, Option, Some, None}
 use Rattle.paper.specs.Lists.{pick, is_nil}
-use Rattle.desk.specs.declared.numbers.Spelled.{Spelled}
-use Rattle.desk.specs.declared.numbers.Spelled.TheVariants.{Number, Nothing}
 
 -- the largest value
 abbrev pub most_value : ℕ
@@ -25,9 +22,4 @@ decimal_from n (b ∷ bs) = decimal_from (n * 10 + (b - 48)) bs
 
 -- the number that bytes spell: none where there are none, where one is no digit, or above the largest value
 abbrev pub number_of : List ℕ → Option ℕ
-number_of bs = pick (not (is_nil bs) && (all_digits bs && leb (decimal_from 0 bs) most_value)) (some (decimal_from 0 bs)) none
-
--- the answer of the code
-abbrev pub spelt : Spelled → Option ℕ
-spelt (Number n) = some n
-spelt Nothing = none
+number_of bs = pick (not (is_nil bs) && (all_digits bs && leb (decimal_from 0 bs) most_value)) (Some (decimal_from 0 bs)) None

@@ -1,8 +1,7 @@
 -- Line and column of a place in a sheet, both from 1.
-use Rattle.std.specs.Prelude.{◌≡◌, List, [], ◌∷◌, ℕ, suc, ◌≤◌, ◌<◌, eqb, length, take, get_or}
+use Rattle.std.specs.Prelude.{List, [], ◌∷◌, ℕ, suc, eqb, take}
 use Rattle.paper.specs.Lists.{pick}
 use Rattle.desk.specs.Stretches.{line_feed}
-use Rattle.desk.specs.declared.places.Place.{Place}
 
 -- n and the line feeds among bytes
 unfoldable pub feeds_from : ℕ → List ℕ → ℕ
@@ -21,14 +20,3 @@ line_at sheet at = suc (feeds_from 0 (take at sheet))
 -- the column: one more than the bytes since the last line feed before the place
 abbrev pub column_at : List ℕ → ℕ → ℕ
 column_at sheet at = suc (since_feed 0 (take at sheet))
-
--- a place of the sheet with its line and its column
-pub record Right (sheet : List ℕ) (p : Place) : Type 0 where
-  pub inside : p.at ≤ length sheet
-  pub line_is : p.line ≡ line_at sheet p.at
-  pub column_is : p.column ≡ column_at sheet p.at
-
--- the byte at a place of the sheet
-pub record Next (sheet : List ℕ) (at byte : ℕ) : Type 0 where
-  pub there : at < length sheet
-  pub byte_is : byte ≡ get_or sheet at 0

@@ -1,5 +1,5 @@
 -- Stretches of bytes: up to a byte, in lines, without the return at their end.
-use Rattle.std.specs.Prelude.{List, [], ◌∷◌, ℕ, suc, ◌+◌, ◌-◌, eqb, length, take, drop, get_or}
+use Rattle.std.specs.Prelude.{List, [], ◌∷◌, ℕ, suc, ◌-◌, eqb, length, take, get_or}
 use Rattle.paper.specs.Lists.{pick}
 
 -- ends a line
@@ -14,10 +14,6 @@ carriage_return = 13
 unfoldable pub ahead : ℕ → List ℕ → ℕ
 ahead b [] = 0
 ahead b (x ∷ xs) = pick (eqb x b) 0 (suc (ahead b xs))
-
--- the end of the line that begins at a place: the first line feed from there on, or the end of the file
-abbrev pub line_end : List ℕ → ℕ → ℕ
-line_end file at = at + ahead line_feed (drop at file)
 
 -- a byte in front of the first line; it is a line of its own where there is none
 abbrev pub on_first : ℕ → List (List ℕ) → List (List ℕ)

@@ -1,89 +1,94 @@
 // Line and column of a place in a sheet, both from 1.
-ghost use Rattle.std.specs.Prelude.{◌≡◌, List, ℕ, suc, ◌≤◌, length};
-ghost use Rattle.desk.specs.Places.{Right, Next};
-ghost use Rattle.list.specs.Limits.{smaller};
+ghost use Rattle.std.specs.Prelude.{◌≡◌, ◌≤◌, length};
+ghost use Rattle.desk.specs.Places.{line_at, column_at};
 
 use crate::stretches::LINE_FEED;
-use list::limits::{MOST_BYTES, least};
+use list::limits::MOST_BYTES;
 
+// A place in a sheet, with its line and its column.
 #[derive(Clone, Copy)]
-pub struct Place {
+pub struct Place<'a> {
+    pub sheet: &'a [u8],
     pub at: usize,
     pub line: usize,
     pub column: usize,
+    pub ghost inside: { at ≤ length sheet.now },
+    pub ghost line_is: { line ≡ line_at sheet.now at },
+    pub ghost column_is: { column ≡ column_at sheet.now at },
 }
 
-// The first place of every sheet.
-pub fn first_place() -> Place
-    ensures by_index { (sheet : List ℕ) → Right sheet result }
-    ensures at_value { result.at ≡ 0 }
-{
-    Place {
-        at: 0,
-        line: 1,
-        column: 1,
-    }
-}
+impl<'a> Place<'a> {
+    ghost use Rattle.std.specs.Prelude.{◌<◌, suc, min};
 
-// The place behind the next byte.
-fn next_place(sheet: &[u8], from: Place, byte: u8) -> Place
-    requires right { Right sheet.now from }
-    requires next { Next sheet.now from.at byte }
-    ensures right_2 { Right sheet.now result }
-    ensures at_value { result.at ≡ suc from.at }
-{
-    if byte == LINE_FEED {
-        return Place {
-            at: from.at + 1,
-            line: from.line + 1,
+    // The first place of a sheet.
+    pub fn first(sheet: &'a [u8]) -> Self
+        ensures sheet { result.sheet ≡ sheet.entry }
+        ensures at { result.at ≡ 0 }
+    {
+        Place {
+            sheet,
+            at: 0,
+            line: 1,
             column: 1,
-        };
+        }
     }
-    Place {
-        at: from.at + 1,
-        line: from.line,
-        column: from.column + 1,
-    }
-}
 
-fn advance(sheet: &[u8], from: Place, to: usize) -> Place
-    requires right { Right sheet.now from }
-    requires at_le_to { (from.at ≤ to) × (to ≤ length sheet.now) }
-    ensures right_2 { Right sheet.now result }
-    ensures at_value { result.at ≡ to }
-{
-    let mut place = from;
-    while place.at < to {
-        let at = place.at;
-        place = next_place(sheet, place, sheet[at]);
+    // The place behind the next byte.
+    fn next(self) -> Self
+        requires { self.at < length self.sheet.now }
+        ensures sheet { result.sheet ≡ self.entry.sheet }
+        ensures at { result.at ≡ suc self.entry.at }
+    {
+        let sheet = self.sheet;
+        let at = self.at + 1;
+        if sheet[self.at] == LINE_FEED {
+            return Place {
+                sheet,
+                at,
+                line: self.line + 1,
+                column: 1,
+            };
+        }
+        Place {
+            sheet,
+            at,
+            line: self.line,
+            column: self.column + 1,
+        }
     }
-    place
-}
 
-// The place at `at`, or the last of the sheet where that is past it. A place before it spares the way from the beginning.
-pub fn place_at(sheet: &[u8], near: Place, at: usize) -> Place
-    requires { Right sheet.now near }
-    ensures right { Right sheet.now result }
-    ensures at_value { result.at ≡ smaller at (length sheet.now) }
-{
-    let to = least(at, sheet.len());
-    if near.at <= to {
-        return advance(sheet, near, to);
+    fn advance(self, to: usize) -> Self
+        requires { (self.at ≤ to) × (to ≤ length self.sheet.now) }
+        ensures sheet { result.sheet ≡ self.entry.sheet }
+        ensures at { result.at ≡ to }
+    {
+        let mut place = self;
+        for _ in self.at..to {
+            place = place.next();
+        }
+        place
     }
-    advance(sheet, first_place(), to)
-}
 
-// Where to look from for matches that end at `end` or later: none is longer than the most bytes of a code.
-pub fn follow(sheet: &[u8], near: Place, end: usize) -> Place
-    requires { Right sheet.now near }
-    ensures { Right sheet.now result }
-{
-    if end < MOST_BYTES {
-        return near;
+    // The place at `at`, or the last of the sheet where that is past it. This place, if it lies before that, spares the way from the beginning.
+    pub fn towards(self, at: usize) -> Self
+        ensures sheet { result.sheet ≡ self.entry.sheet }
+        ensures at { result.at ≡ min at (length self.entry.sheet.now) }
+    {
+        let to = at.min(self.sheet.len());
+        if self.at <= to {
+            return self.advance(to);
+        }
+        Place::first(self.sheet).advance(to)
     }
-    let from = end - MOST_BYTES;
-    if from <= near.at {
-        return near;
+
+    // Where to look from for matches that end at `end` or later: none is longer than the most bytes of a code.
+    pub fn follow(self, end: usize) -> Self
+        ensures { result.sheet ≡ self.entry.sheet }
+    {
+        let from = end.saturating_sub(MOST_BYTES);
+        if from <= self.at {
+            return self;
+        }
+        self.towards(from)
     }
-    place_at(sheet, near, from)
 }

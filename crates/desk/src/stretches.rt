@@ -1,64 +1,61 @@
-// Stretches of bytes: where a byte stands first, where a line ends, and whether two stretches are the same.
-ghost use Rattle.std.specs.Prelude.{◌≡◌, ◌≤◌, length};
-ghost use Rattle.paper.specs.Lists.{same};
-ghost use Rattle.desk.specs.Stretches.{ahead, line_end, bare_length};
+// Stretches of bytes: where a byte stands first, the lines of a file, and a line without the return at its end.
+ghost use Rattle.std.specs.Prelude.{◌≡◌, ◌==◌, ◌≤◌, length, position};
+ghost use Rattle.std.specs.Iterator.{YieldsFirstRef, item_count};
+ghost use Rattle.desk.specs.Stretches.{ahead, lines_of, bare};
 
-pub const LINE_FEED: u8 = 10;
+pub const LINE_FEED: u8 = b'\n';
 
-const CARRIAGE_RETURN: u8 = 13;
+// Where such a byte stands first.
+fn position_of(bytes: &[u8], byte: u8) -> Option<usize>
+    ensures { result ≡ position (λ next. next == byte) bytes.now }
+{
+    bytes.iter().position(|next| *next == byte)
+}
 
 // How many bytes stand before the first such byte; all of them where there is none.
 pub fn count_ahead(bytes: &[u8], byte: u8) -> usize
     ensures value { result ≡ ahead byte bytes.now }
     ensures upper_bound { result ≤ length bytes.now }
 {
-    let mut i = 0;
-    while i < bytes.len() {
-        if bytes[i] == byte {
-            return i;
+    position_of(bytes, byte).unwrap_or(bytes.len())
+}
+
+// The lines of a file that are left, each without the line feed that ends it.
+#[derive(Clone, Copy)]
+pub struct Lines<'a> {
+    rest: &'a [u8],
+}
+
+impl<'a> Lines<'a> {
+    pub fn of(file: &'a [u8]) -> Self
+        ensures { result.rest.now ≡ file.now }
+    {
+        Lines { rest: file }
+    }
+}
+
+impl<'a> Iterator for Lines<'a> {
+    type Item = &'a [u8];
+
+    ghost next_gives = { YieldsFirstRef (λ lines. lines_of lines.rest.now) };
+
+    ghost remaining = { item_count (λ lines. lines_of lines.rest.now) };
+
+    fn next(&mut self) -> Option<&'a [u8]> {
+        if self.rest.is_empty() {
+            return None;
         }
-        i += 1;
+        let size = count_ahead(self.rest, LINE_FEED);
+        let line = &self.rest[..size];
+        let next = (size + 1).min(self.rest.len());
+        self.rest = &self.rest[next..];
+        Some(line)
     }
-    i
 }
 
-// Where the line that begins at a place ends.
-pub fn line_end(file: &[u8], at: usize) -> usize
-    requires { at ≤ length file.now }
-    ensures value { result ≡ line_end file.now at }
-    ensures lower_bound { (at ≤ result) × (result ≤ length file.now) }
+// A line without one carriage return at its end.
+pub fn bare(line: &[u8]) -> &[u8]
+    ensures { result.now ≡ bare line.now }
 {
-    at + count_ahead(&file[at..], LINE_FEED)
-}
-
-// How long a line is without one carriage return at its end.
-pub fn bare_length(line: &[u8]) -> usize
-    ensures value { result ≡ bare_length line.now }
-    ensures upper_bound { result ≤ length line.now }
-{
-    if line.len() == 0 {
-        return 0;
-    }
-    let last = line.len() - 1;
-    if line[last] == CARRIAGE_RETURN {
-        return last;
-    }
-    line.len()
-}
-
-// Whether two stretches have the same bytes.
-pub fn same_bytes(one: &[u8], other: &[u8]) -> bool
-    ensures { result ≡ same one.now other.now }
-{
-    if one.len() != other.len() {
-        return false;
-    }
-    let mut i = 0;
-    while i < one.len() {
-        if one[i] != other[i] {
-            return false;
-        }
-        i += 1;
-    }
-    true
+    line.strip_suffix(b"\r").unwrap_or(line)
 }

@@ -1,91 +1,112 @@
-// A line put together in a buffer, so that it is written at once. Each function answers where the line ends now; what does not fit is left out.
-ghost use Rattle.std.specs.Prelude.{◌≡◌, false};
+// Bytes put together in a room of their own, as a line that is written at once, or a name. What does not fit is left out.
+ghost use Rattle.std.specs.Prelude.{◌≡◌, false, [], List, ℕ, take, length, ◌≤◌};
 ghost use Rattle.desk.specs.Shown.{is_control, Clean};
 
-use std::fmt::InlineText;
+use std::io;
+use std::io::Write;
+use std::marker::Model;
 
-const BACKSLASH: u8 = 92;
+const BACKSLASH: u8 = b'\\';
 
-const LOWER_X: u8 = 120;
+#[derive(Drop)]
+pub struct Room<const N: usize> {
+    bytes: [u8; N],
+    size: usize,
+}
 
-const DELETE: u8 = 127;
+impl<const N: usize> Model for Room<N> {
+    ghost Value = { List ℕ };
 
-const SPACE: u8 = 32;
+    ghost view = { λ room. take room.size room.bytes };
 
-// No number of 64 bits has more digits.
-const MOST_DIGITS: usize = 20;
+    ghost invariant = { λ room. room.size ≤ length room.bytes };
+}
 
-fn put_byte(line: &mut [u8], end: usize, byte: u8) -> usize
-    ensures { is_control byte ≡ false → Clean line.old line.new end result }
-{
-    if end < line.len() {
-        line[end] = byte;
-        return end + 1;
+impl<const N: usize> Room<N> {
+    pub fn new() -> Self
+        ensures { result ≡ [] }
+    {
+        Room {
+            bytes: [0; N],
+            size: 0,
+        }
     }
-    end
-}
 
-pub fn put(line: &mut [u8], end: usize, part: &[u8]) -> usize {
-    let mut at = end;
-    let mut i = 0;
-    while i < part.len() {
-        at = put_byte(line, at, part[i]);
-        i += 1;
+    pub fn clear(&mut self)
+        ensures { self.new ≡ [] }
+    {
+        self.size = 0;
     }
-    at
+
+    pub fn as_bytes(&self) -> &[u8]
+        ensures { result.now ≡ self.now }
+    {
+        &self.bytes[..self.size]
+    }
+
+    fn push(&mut self, byte: u8)
+        ensures { is_control byte ≡ false → Clean self.old self.new }
+    {
+        if self.size < self.bytes.len() {
+            self.bytes[self.size] = byte;
+            self.size += 1;
+        }
+    }
+
+    fn push_escaped(&mut self, byte: u8)
+        ensures { Clean self.old self.new }
+    {
+        self.push(BACKSLASH);
+        self.push(b'x');
+        self.push(digit(byte / 16));
+        self.push(digit(byte % 16));
+    }
+
+    fn push_visible(&mut self, byte: u8)
+        ensures { Clean self.old self.new }
+    {
+        if byte.is_ascii_control() {
+            self.push_escaped(byte);
+        } else {
+            self.push(byte);
+        }
+    }
+
+    pub fn put(&mut self, part: &[u8]) {
+        for byte in part {
+            self.push(*byte);
+        }
+    }
+
+    // A code or a file's name: control bytes as \xHH, so that nothing can disturb a terminal.
+    pub fn put_shown(&mut self, part: &[u8])
+        ensures { Clean self.old self.new }
+    {
+        for byte in part {
+            self.push_visible(*byte);
+        }
+    }
 }
 
-pub fn put_number(line: &mut [u8], end: usize, number: u64) -> usize {
-    let digits = InlineText::<MOST_DIGITS>::of(number);
-    put(line, end, digits.as_str().as_bytes())
+// So that `write!` puts words and numbers. It never fails.
+impl<const N: usize> Write for Room<N> {
+    fn write(&mut self, part: &[u8]) -> io::Result<usize> {
+        self.put(part);
+        Ok(part.len())
+    }
+
+    fn flush(&mut self) -> io::Result<()> {
+        Ok(())
+    }
 }
 
+// The digit of a number below 16. By hand, since no clause says which bytes `write!` puts, and `Clean` speaks of them.
 fn digit(half: u8) -> u8
     ensures { is_control result ≡ false }
 {
-    if half < 10 {
-        return 48 + half;
+    match half {
+        0..=9 => b'0' + half,
+        10..=15 => b'a' + (half - 10),
+        _ => b'?',
     }
-    if half < 16 {
-        return 87 + half;
-    }
-    63
-}
-
-// A byte that may do something to a terminal.
-fn is_control(byte: u8) -> bool
-    ensures { result ≡ is_control byte }
-{
-    byte < SPACE || byte == DELETE
-}
-
-fn put_escaped(line: &mut [u8], end: usize, byte: u8) -> usize
-    ensures { Clean line.old line.new end result }
-{
-    let first = put_byte(line, end, BACKSLASH);
-    let second = put_byte(line, first, LOWER_X);
-    let third = put_byte(line, second, digit(byte / 16));
-    put_byte(line, third, digit(byte % 16))
-}
-
-fn put_visible(line: &mut [u8], end: usize, byte: u8) -> usize
-    ensures { Clean line.old line.new end result }
-{
-    if is_control(byte) {
-        return put_escaped(line, end, byte);
-    }
-    put_byte(line, end, byte)
-}
-
-// A code or a file's name: control bytes as \xHH, so that nothing can disturb a terminal.
-pub fn put_shown(line: &mut [u8], end: usize, part: &[u8]) -> usize
-    ensures { Clean line.old line.new end result }
-{
-    let mut at = end;
-    let mut i = 0;
-    while i < part.len() {
-        at = put_visible(line, at, part[i]);
-        i += 1;
-    }
-    at
 }

@@ -1,28 +1,33 @@
 // The words of the command, taken one after the other.
-use crate::stretches::same_bytes;
+ghost use Rattle.std.specs.Prelude.{◌≡◌, ◌≢◌, ◌+◌, ◌↔◌, false, IfOk, IsOk};
+ghost use Rattle.desk.specs.Words.{names_in};
+ghost use Rattle.desk.specs.declared.words.Way.TheVariants as way;
 
-const HYPHEN: u8 = 45;
-
-// The list and the sheet.
-const MOST_NAMES: u32 = 2;
-
-#[derive(Clone, Copy)]
+// Which search is run.
+#[derive(Clone, Copy, Debug, PartialEq, Eq)]
 pub enum Way {
     Overlapping,
     Plain,
     Longest,
     First,
-    // The word names no search.
-    Unknown,
 }
 
-// What the next word is, or what is known not to need one.
-#[derive(Clone, Copy)]
-pub enum Stand {
-    Open,
-    // The next word says the search.
-    Choosing,
-    Help,
+impl Way {
+    // The search that a word names.
+    fn named(word: &[u8]) -> Option<Self> {
+        match word {
+            b"overlapping" => Some(Way::Overlapping),
+            b"plain" => Some(Way::Plain),
+            b"longest" => Some(Way::Longest),
+            b"first" => Some(Way::First),
+            _ => None,
+        }
+    }
+}
+
+// Why the words are not taken.
+#[derive(Clone, Copy, Debug, PartialEq, Eq)]
+pub enum Fault {
     UnknownOption,
     UnknownSearch,
     NoSearch,
@@ -31,162 +36,94 @@ pub enum Stand {
     LongWord,
 }
 
+// What a word was.
+#[derive(Clone, Copy, Debug, PartialEq, Eq)]
+pub enum Word {
+    Option,
+    // The name of the list.
+    List,
+    // The name of the sheet.
+    Sheet,
+    // Nothing else is wanted.
+    Help,
+}
+
 // What is wanted, after some words.
-#[derive(Clone, Copy)]
+#[derive(Clone, Copy, Debug, PartialEq, Eq)]
 pub struct Wish {
     pub way: Way,
     pub numbers: bool,
-    pub names: u32,
+    names: u32,
     // The options are over.
-    pub over: bool,
-    pub stand: Stand,
+    over: bool,
+    // The next word says the search.
+    choosing: bool,
 }
 
-pub fn first_wish() -> Wish {
-    Wish {
-        way: Way::Overlapping,
-        numbers: false,
-        names: 0,
-        over: false,
-        stand: Stand::Open,
+impl Wish {
+    // What is wanted where there are no words.
+    pub fn first() -> Self
+        ensures search { (result.way ≡ way.Overlapping) × (result.numbers ≡ false) }
+        ensures words { (result.names ≡ 0) × (result.choosing ≡ false) }
+    {
+        Wish {
+            way: Way::Overlapping,
+            numbers: false,
+            names: 0,
+            over: false,
+            choosing: false,
+        }
     }
-}
 
-pub fn standing(wish: Wish, stand: Stand) -> Wish {
-    let way = wish.way;
-    Wish {
-        way,
-        numbers: wish.numbers,
-        names: wish.names,
-        over: wish.over,
-        stand,
+    pub fn take(&mut self, word: &[u8]) -> Result<Word, Fault>
+        ensures { IfOk result (λ taken. self.new.names ≡ self.old.names + names_in taken) }
+    {
+        if self.choosing {
+            self.way = Way::named(word).ok_or(Fault::UnknownSearch)?;
+            self.choosing = false;
+            return Ok(Word::Option);
+        }
+        if self.over || !word.starts_with(b"-") {
+            return self.take_name();
+        }
+        self.take_option(word)
     }
-}
 
-fn way_of(word: &[u8]) -> Way {
-    if same_bytes(word, b"overlapping") {
-        return Way::Overlapping;
+    fn take_option(&mut self, word: &[u8]) -> Result<Word, Fault>
+        ensures { IfOk result (λ taken. self.new.names ≡ self.old.names + names_in taken) }
+    {
+        match word {
+            b"--" => self.over = true,
+            b"--search" => self.choosing = true,
+            b"--numbers" => self.numbers = true,
+            b"--help" | b"-h" => return Ok(Word::Help),
+            _ => return Err(Fault::UnknownOption),
+        }
+        Ok(Word::Option)
     }
-    if same_bytes(word, b"plain") {
-        return Way::Plain;
-    }
-    if same_bytes(word, b"longest") {
-        return Way::Longest;
-    }
-    if same_bytes(word, b"first") {
-        return Way::First;
-    }
-    Way::Unknown
-}
 
-fn choose(wish: Wish, way: Way) -> Wish {
-    if let Way::Unknown = way {
-        return standing(wish, Stand::UnknownSearch);
+    fn take_name(&mut self) -> Result<Word, Fault>
+        ensures { IfOk result (λ taken. self.new.names ≡ self.old.names + names_in taken) }
+    {
+        let word = match self.names {
+            0 => Word::List,
+            1 => Word::Sheet,
+            _ => return Err(Fault::ThirdName),
+        };
+        self.names += 1;
+        Ok(word)
     }
-    Wish {
-        way,
-        numbers: wish.numbers,
-        names: wish.names,
-        over: wish.over,
-        stand: Stand::Open,
-    }
-}
 
-fn take_name(wish: Wish) -> Wish {
-    if MOST_NAMES <= wish.names {
-        return standing(wish, Stand::ThirdName);
-    }
-    let way = wish.way;
-    Wish {
-        way,
-        numbers: wish.numbers,
-        names: wish.names + 1,
-        over: wish.over,
-        stand: Stand::Open,
-    }
-}
-
-fn end_options(wish: Wish) -> Wish {
-    let way = wish.way;
-    Wish {
-        way,
-        numbers: wish.numbers,
-        names: wish.names,
-        over: true,
-        stand: Stand::Open,
-    }
-}
-
-fn ask_numbers(wish: Wish) -> Wish {
-    let way = wish.way;
-    Wish {
-        way,
-        numbers: true,
-        names: wish.names,
-        over: wish.over,
-        stand: Stand::Open,
-    }
-}
-
-fn take_option(wish: Wish, word: &[u8]) -> Wish {
-    if same_bytes(word, b"--") {
-        return end_options(wish);
-    }
-    if same_bytes(word, b"--search") {
-        return standing(wish, Stand::Choosing);
-    }
-    if same_bytes(word, b"--numbers") {
-        return ask_numbers(wish);
-    }
-    if same_bytes(word, b"--help") {
-        return standing(wish, Stand::Help);
-    }
-    if same_bytes(word, b"-h") {
-        return standing(wish, Stand::Help);
-    }
-    standing(wish, Stand::UnknownOption)
-}
-
-fn is_option(word: &[u8]) -> bool {
-    if word.len() == 0 {
-        return false;
-    }
-    word[0] == HYPHEN
-}
-
-// A wish after one word more.
-pub fn take_word(wish: Wish, word: &[u8]) -> Wish {
-    let stand = wish.stand;
-    if let Stand::Choosing = stand {
-        return choose(wish, way_of(word));
-    }
-    if wish.over {
-        return take_name(wish);
-    }
-    if is_option(word) {
-        return take_option(wish, word);
-    }
-    take_name(wish)
-}
-
-// A wish after the last word.
-pub fn end_words(wish: Wish) -> Wish {
-    let stand = wish.stand;
-    if let Stand::Choosing = stand {
-        return standing(wish, Stand::NoSearch);
-    }
-    if wish.names == 1 {
-        return standing(wish, Stand::OneName);
-    }
-    wish
-}
-
-// Whether the next word is to be taken.
-pub fn goes_on(wish: Wish) -> bool {
-    let stand = wish.stand;
-    match stand {
-        Stand::Open => true,
-        Stand::Choosing => true,
-        _ => false,
+    // After the last word.
+    pub fn end(&self) -> Result<(), Fault>
+        ensures { IsOk result ↔ ((self.now.choosing ≡ false) × (self.now.names ≢ 1)) }
+    {
+        if self.choosing {
+            return Err(Fault::NoSearch);
+        }
+        if self.names == 1 {
+            return Err(Fault::OneName);
+        }
+        Ok(())
     }
 }

@@ -1,16 +1,19 @@
 // The interface for C and for Rust: slices in, numbers out. Every table, text and sheet is lent by the caller; a slice crosses as a pointer and a
-// length, a lent variable as a pointer. The functions ask for nothing. `c/rotspangle.h` declares them.
+// length, a lent variable as a pointer. The functions ask for nothing. `c/rotspangle.h` declares them: C calls each search by a name of its own and lends
+// its tables one by one, so the three stand here with the same parameters.
 #![tactic(auto)]
 
 ghost use Rattle.std.specs.Prelude.{◌≡◌, length};
 ghost use Rattle.build.specs.Lot.{lot_of};
-ghost use Rattle.table.specs.Agrees.{lent};
+ghost use Rattle.table.specs.Agrees.{tables_from};
 ghost use Rattle.search.specs.Values.{overlapping, plain, leftmost};
 ghost use Rattle.sheet.specs.Sheet.{sheet_of};
 ghost use Rattle.boundary.specs.Boundary.{BuildPromise, counts_of, held_in, SearchPromise};
 
-use boundary::{beside_of, counts_of, hand_back, held_in, number_of};
-use table::Depth;
+use boundary::{beside_of, counts_of, number_of, search_into};
+use list::List;
+use search::{Leftmost, Overlapping, Plain};
+use table::{Depth, Tables};
 
 // The tables of a list: 0, or the number of a refusal.
 #[unsafe(no_mangle)]
@@ -37,8 +40,14 @@ pub extern "C" fn rotspangle_build(
         (lot_of trie.new owns.new notes.new spots.new
         base.new link.new output.new check.new depth.new outs.new) counts.new result }
 {
+    let list = List {
+        kind,
+        bytes,
+        ends,
+        values,
+    };
     let built = build::build(
-        kind, bytes, ends, values, trie, owns, notes, spots, base, link, output, check, depth, outs,
+        list, trie, owns, notes, spots, base, link, output, check, depth, outs,
     );
     *counts = beside_of(built);
     number_of(built)
@@ -64,24 +73,21 @@ pub extern "C" fn rotspangle_overlapping(
     sheet: &mut [[usize; 3]],
     written: &mut usize,
 ) -> u32
-    ensures { SearchPromise (sheet_of overlapping (lent base.now link.now output.now check.now depth.now
+    ensures { SearchPromise (sheet_of overlapping (tables_from base.now link.now output.now check.now depth.now
         outs.now (counts_of kind accepted cells)) kind text.now (length sheet.old)
         (held_in state.old pending.old place.old moves.old)) sheet.old
         state.new pending.new place.new moves.new sheet.new written.new result }
 {
-    let filled = sheet::fill_overlapping(
-        held_in(*state, *pending, *place, *moves),
+    let tables = Tables {
         base,
         link,
         output,
         check,
         depth,
         outs,
-        counts_of(kind, accepted, cells),
-        text,
-        sheet,
-    );
-    hand_back(filled, state, pending, place, moves, written)
+        counts: counts_of(kind, accepted, cells),
+    };
+    search_into::<Overlapping>(&tables, text, state, pending, place, moves, sheet, written)
 }
 
 // Plain search into a sheet: 0 at the end, 1 for a full sheet, or the number of a refusal.
@@ -104,24 +110,21 @@ pub extern "C" fn rotspangle_plain(
     sheet: &mut [[usize; 3]],
     written: &mut usize,
 ) -> u32
-    ensures { SearchPromise (sheet_of plain (lent base.now link.now output.now check.now depth.now
+    ensures { SearchPromise (sheet_of plain (tables_from base.now link.now output.now check.now depth.now
         outs.now (counts_of kind accepted cells)) kind text.now (length sheet.old)
         (held_in state.old pending.old place.old moves.old)) sheet.old
         state.new pending.new place.new moves.new sheet.new written.new result }
 {
-    let filled = sheet::fill_plain(
-        held_in(*state, *pending, *place, *moves),
+    let tables = Tables {
         base,
         link,
         output,
         check,
         depth,
         outs,
-        counts_of(kind, accepted, cells),
-        text,
-        sheet,
-    );
-    hand_back(filled, state, pending, place, moves, written)
+        counts: counts_of(kind, accepted, cells),
+    };
+    search_into::<Plain>(&tables, text, state, pending, place, moves, sheet, written)
 }
 
 // Leftmost search into a sheet: 0 at the end, 1 for a full sheet, or the number of a refusal.
@@ -144,22 +147,19 @@ pub extern "C" fn rotspangle_leftmost(
     sheet: &mut [[usize; 3]],
     written: &mut usize,
 ) -> u32
-    ensures { SearchPromise (sheet_of leftmost (lent base.now link.now output.now check.now depth.now
+    ensures { SearchPromise (sheet_of leftmost (tables_from base.now link.now output.now check.now depth.now
         outs.now (counts_of kind accepted cells)) kind text.now (length sheet.old)
         (held_in state.old pending.old place.old moves.old)) sheet.old
         state.new pending.new place.new moves.new sheet.new written.new result }
 {
-    let filled = sheet::fill_leftmost(
-        held_in(*state, *pending, *place, *moves),
+    let tables = Tables {
         base,
         link,
         output,
         check,
         depth,
         outs,
-        counts_of(kind, accepted, cells),
-        text,
-        sheet,
-    );
-    hand_back(filled, state, pending, place, moves, written)
+        counts: counts_of(kind, accepted, cells),
+    };
+    search_into::<Leftmost>(&tables, text, state, pending, place, moves, sheet, written)
 }

@@ -9,7 +9,7 @@ ghost use Rattle.groups.specs.Stack.{Pushable, Pushed, PushableSome};
 
 use trie::TrieId;
 
-// The fields of a row of notes.
+// The fields of a row of notes, each read and written by a name of its own, as those of the trie's rows.
 const GROUP: usize = 3;
 
 const STACK: usize = 4;
@@ -26,8 +26,7 @@ fn set_group(notes: &mut [[u32; 6]], i: usize, s: TrieId)
     requires { i < length notes.old }
     ensures { notes.new ≡ with_group notes.old i s.0 }
 {
-    let old = notes[i];
-    notes[i] = [old[0], old[1], old[2], s.0, old[4], old[5]];
+    notes[i][GROUP] = s.0;
 }
 
 // The state at a height of the stack.
@@ -42,8 +41,7 @@ fn set_stacked(notes: &mut [[u32; 6]], i: usize, s: TrieId)
     requires { i < length notes.old }
     ensures { notes.new ≡ with_stacked notes.old i s.0 }
 {
-    let old = notes[i];
-    notes[i] = [old[0], old[1], old[2], old[3], s.0, old[5]];
+    notes[i][STACK] = s.0;
 }
 
 // The children of a state on the stack, by rising byte, so that the highest byte's is on top. Answers the height.
@@ -53,16 +51,15 @@ fn push_children(trie: &[[u32; 5]], notes: &mut [[u32; 6]], s: TrieId, height: u
         → Pushed es notes.old notes.new result u stack }
 {
     let mut top = height;
-    let mut t = trie::first_child(trie, s);
-    while t.0 != 0 {
-        set_stacked(notes, top, t);
+    for child in trie::children(trie, s) {
+        set_stacked(notes, top, child);
         top += 1;
-        t = trie::next_sibling(trie, t);
     }
     top
 }
 
-// All groups in their order. Answers how many there are.
+// All groups in their order. Answers how many there are. The stack lies in the lent notes, since there is no heap, and its height changes
+// both ways, so that no range counts it.
 pub fn order_groups(trie: &[[u32; 5]], notes: &mut [[u32; 6]]) -> usize
     requires { GroupableSome trie.now (length notes.old) }
     ensures { (es : List Entry) → Groupable es trie.now (length notes.old)

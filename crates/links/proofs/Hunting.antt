@@ -9,7 +9,7 @@ use lib.ListN.{length, get_or}
 use Rattle.paper.specs.Lists.{pick, snoc}
 use Rattle.paper.specs.Patterns.{Entry, Kind}
 use Rattle.paper.specs.Automaton.{machine, is_state, Link, dead, to, link}
-use Rattle.paper.proofs.Tests.{ne_eqb, eq_eqb}
+use Rattle.std.proofs.lemmas.Bool.{ne_eqb, eq-eqb}
 use Rattle.paper.proofs.Links.{Lawful, link_cases, failure_shorter, hunts, hunts_hit, hunts_root, hunts_miss}
 use Rattle.list.specs.Limits.{alphabet, most_bytes}
 use Rattle.plan.specs.Names.{names}
@@ -114,7 +114,7 @@ module _ (kind : Kind) (es : List Entry) (K : Slots) (I : Trie alphabet K (names
             shorten (to v) s h = omega arith
 
             falls : (l : Link) → Leads (names alphabet es) l m → Short (length (x ∷ xs)) l → get_or (names alphabet es) f [] ≡ x ∷ xs → chain_left K m < chain_left K f
-            falls dead p s name = rw (eq_eqb m 1 p, ne_eqb f 1 P.named.apart) (omega arith)
+            falls dead p s name = rw (eq-eqb m 1 p, ne_eqb f 1 P.named.apart) (omega arith)
             falls (to v) p s name =
                 rw (ne_eqb m 1 p.apart, ne_eqb f 1 P.named.apart)
                 (omega (arith, I.deep m p.inside p.apart, I.deep f P.named.inside P.named.apart, ap length p.is, ap length name))

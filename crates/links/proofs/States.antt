@@ -8,7 +8,7 @@ use lib.ListN.{length, get_or}
 use Rattle.paper.specs.Lists.{same, snoc}
 use Rattle.paper.specs.Patterns.{Entry}
 use Rattle.paper.specs.Automaton.{is_state}
-use Rattle.paper.proofs.Tests.{not_true→false}
+use Rattle.std.proofs.lemmas.Bool.{false_from_ne_true}
 use Rattle.paper.proofs.Strings.{same_eq}
 use Rattle.list.specs.Limits.{alphabet, most_bytes}
 use Rattle.plan.specs.Names.{names, Distinct}
@@ -41,7 +41,7 @@ module _ (es : List Entry) (K : Slots) (I : Trie alphabet K (names alphabet es))
   pub numbered : (k : ℕ) → k < length ns → (k ≡ 1 → ⊥) → is_state es (get_or ns k []) ≡ true
   unfolding Distinct
   numbered k h z =
-      sym (has_names alphabet es (get_or ns k []) (not_true→false (same (get_or ns k []) (alphabet ∷ []))
+      sym (has_names alphabet es (get_or ns k []) (false_from_ne_true (same (get_or ns k []) (alphabet ∷ []))
       (λ e. z (I.distinct k 1 h (omega (arith, I.two)) (same_eq (get_or ns k []) (alphabet ∷ []) e ∙ sym I.dead)))))
       ∙ has_at ns k h
 

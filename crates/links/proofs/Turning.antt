@@ -8,7 +8,7 @@ use lib.ListN.{get_or}
 use Rattle.paper.specs.Lists.{is_nil}
 use Rattle.paper.specs.Patterns.{Entry, Kind, standard, leftmost}
 use Rattle.paper.specs.Automaton.{machine, is_state, own_of, stops_of}
-use Rattle.paper.proofs.Tests.{ne_eqb, eq_eqb}
+use Rattle.std.proofs.lemmas.Bool.{ne_eqb, eq-eqb}
 use Rattle.paper.proofs.Links.{Lawful}
 use Rattle.paper.proofs.Machines.{lawful}
 use Rattle.list.specs.Limits.{alphabet, most_bytes}
@@ -44,7 +44,7 @@ module _ {kind : Kind} {es : List Entry} {trie notes : List (List ℕ)} {s h tai
   stops_none z = stops_is ∙ go (is_leftmost kind)
     where
       go : (b : Bool) → (b && not (eqb ((slots_of trie).own s) 0)) ≡ false
-      go true = rw (eq_eqb ((slots_of trie).own s) 0 z)
+      go true = rw (eq-eqb ((slots_of trie).own s) 0 z)
       go false = refl
 
   pub stops_never : is_leftmost kind ≡ false → stops_of kind es (get_or (ordered es) h []) ≡ false

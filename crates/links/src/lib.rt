@@ -13,9 +13,9 @@ ghost use Rattle.links.specs.Linked.{Step, Linked, is_leftmost, ordered};
 ghost use Rattle.links.specs.Queue.{Tops, Queued, Final, Noted, Ready, Turn, Poised, TurnSome, RootSome, PoisedSome, ReadySome};
 
 use list::limits::ALPHABET;
-use trie::{Place, TrieId};
+use trie::TrieId;
 
-// The fields of a row of notes.
+// The fields of a row of notes, each read and written by a name of its own, as those of the trie's rows.
 const ORDER: usize = 0;
 
 const LINK: usize = 1;
@@ -33,25 +33,21 @@ pub fn link_of(notes: &[[u32; 6]], s: TrieId) -> TrieId
     requires { s.0 < length notes.now }
     ensures { result.0 ≡ field notes.now s.0 1 }
 {
-    let k = s.0 as usize;
-    TrieId(notes[k][LINK])
+    TrieId(notes[s.0 as usize][LINK])
 }
 
 fn set_order(notes: &mut [[u32; 6]], i: usize, s: TrieId)
     requires { i < length notes.old }
     ensures { notes.new ≡ with_order notes.old i s.0 }
 {
-    let old = notes[i];
-    notes[i] = [s.0, old[1], old[2], old[3], old[4], old[5]];
+    notes[i][ORDER] = s.0;
 }
 
 fn set_link(notes: &mut [[u32; 6]], s: TrieId, t: TrieId)
     requires { s.0 < length notes.old }
     ensures { notes.new ≡ with_link notes.old s.0 t.0 }
 {
-    let k = s.0 as usize;
-    let old = notes[k];
-    notes[k] = [old[0], t.0, old[2], old[3], old[4], old[5]];
+    notes[s.0 as usize][LINK] = t.0;
 }
 
 // The child of a state on a byte; root, which is no child, where there is none. Root has up to 256 children, and nearly every hunt asks it,
@@ -62,13 +58,9 @@ fn child(trie: &[[u32; 5]], tops: &[u32; ALPHABET], s: TrieId, byte: u32) -> Tri
         → Step alphabet ns (get_or ns s.0 []) byte result.0 }
 {
     if s.0 == 0 {
-        let k = byte as usize;
-        return TrieId(tops[k]);
+        return TrieId(tops[byte as usize]);
     }
-    match trie::locate(trie, s, byte) {
-        Place::At(t) => t,
-        Place::Between { prev: _, next: _ } => TrieId(0),
-    }
+    trie::locate(trie, s, byte).unwrap_or(TrieId(0))
 }
 
 // Root's children by byte.
@@ -77,11 +69,8 @@ fn top_children(trie: &[[u32; 5]]) -> [u32; ALPHABET]
     ensures { (ns : List (List ℕ)) → Trie alphabet (slots_of trie.now) ns → Tops ns result }
 {
     let mut tops = [0; ALPHABET];
-    let mut t = trie::first_child(trie, TrieId(0));
-    while t.0 != 0 {
-        let c = trie::label(trie, t) as usize;
-        tops[c] = t.0;
-        t = trie::next_sibling(trie, t);
+    for child in trie::children(trie, TrieId(0)) {
+        tops[trie::label(trie, child) as usize] = child.0;
     }
     tops
 }
@@ -101,10 +90,8 @@ fn stop(trie: &[[u32; 5]], notes: &mut [[u32; 6]], leftmost: bool, s: TrieId, ta
     ensures { (kind : Kind) (es : List Entry) (h : ℕ) → Turn kind es trie.now notes.old s.0 h tail → leftmost ≡ is_leftmost kind
         → Queued kind es (notes_of notes.new) h tail × Final kind es (notes_of notes.new) (take (suc h) (ordered es)) }
 {
-    if leftmost {
-        if trie::own(trie, s) != 0 {
-            set_link(notes, s, TrieId(1));
-        }
+    if leftmost && trie::own(trie, s) != 0 {
+        set_link(notes, s, TrieId(1));
     }
 }
 
@@ -115,11 +102,9 @@ fn link_tops(trie: &[[u32; 5]], notes: &mut [[u32; 6]]) -> usize
         → Queued kind es (notes_of notes.new) 1 result }
 {
     let mut end: usize = 1;
-    let mut t = trie::first_child(trie, TrieId(0));
-    while t.0 != 0 {
-        note_child(notes, t, TrieId(0), end);
+    for child in trie::children(trie, TrieId(0)) {
+        note_child(notes, child, TrieId(0), end);
         end += 1;
-        t = trie::next_sibling(trie, t);
     }
     end
 }
@@ -139,8 +124,7 @@ fn link_children(
 {
     let above = link_of(notes, s);
     let mut end = tail;
-    let mut t = trie::first_child(trie, s);
-    while t.0 != 0 {
+    for t in trie::children(trie, s) {
         let byte = trie::label(trie, t);
         let mut f = above;
         let link = loop {
@@ -158,12 +142,11 @@ fn link_children(
         };
         note_child(notes, t, link, end);
         end += 1;
-        t = trie::next_sibling(trie, t);
     }
     end
 }
 
-// All links, breadth first.
+// All links, breadth first. The queue grows while it is walked, so `head` is no index over a range that is known before.
 pub fn link_all(trie: &[[u32; 5]], notes: &mut [[u32; 6]], leftmost: bool)
     requires { ReadySome trie.now (length notes.old) leftmost }
     ensures { (kind : Kind) (es : List Entry) → Ready kind es trie.now (length notes.old) → leftmost ≡ is_leftmost kind

@@ -11,7 +11,7 @@ use native.Mathlib.Omega.{arith}
 use lib.Dec.{ltb}
 use lib.ListN.{length, take, drop, get_or, length-drop, length-take, get_or-eq_default}
 use lib.Seq.{length-take-le, get_or-take, get_or-drop}
-use Rattle.paper.proofs.Tests.{ltb_le, or_not_left, or_not_right}
+use Rattle.std.proofs.lemmas.Bool.{ltb-false, or_parts}
 use Rattle.list.specs.Listed.{patterns_from, patterns_of, start_of, end_of, falls, last_from}
 use Rattle.list.specs.Claims.{Bytes, SoundEnds, Standing}
 
@@ -31,11 +31,11 @@ part_from a bytes (e ∷ es) (suc i) l = part_from e bytes es i (le_of_suc-le-su
 
 rise : (a e : ℕ) (es : List ℕ) → falls a (e ∷ es) ≡ false → a ≤ e
 unfolding falls
-rise a e es f = ltb_le e a (or_not_left (ltb e a) (falls e es) f)
+rise a e es f = ltb-false e a (or_parts (ltb e a) (falls e es) f).0
 
 rise_after : (a e : ℕ) (es : List ℕ) → falls a (e ∷ es) ≡ false → falls e es ≡ false
 unfolding falls
-rise_after a e es f = or_not_right (ltb e a) (falls e es) f
+rise_after a e es f = (or_parts (ltb e a) (falls e es) f).1
 
 pub ordered_from : (a : ℕ) (ends : List ℕ) (i : ℕ) → falls a ends ≡ false → i < length ends → get_or (a ∷ ends) i 0 ≤ get_or ends i 0
 ordered_from a [] i f l = absurd (not-suc-le-zero l)

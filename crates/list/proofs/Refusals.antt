@@ -8,7 +8,8 @@ use native.Mathlib.Nat.{not-suc-le-zero, le_of_suc-le-suc}
 use native.Mathlib.Omega.{arith}
 use lib.Dec.{eqb}
 use lib.ListN.{length, take}
-use Rattle.paper.proofs.Tests.{test, clash, eq_eqb, and_left, and_right, or_not_left, or_not_right, not_true}
+use Rattle.std.proofs.lemmas.Bool.{eq-eqb, not-true, and_parts, or_parts}
+use Rattle.paper.proofs.Tests.{test, clash}
 use Rattle.list.specs.Refusals.{Refusal, Told, tells, lowest, any_holds, without, distinct, entry, Exactly}
 
 told_same : {a b : Told} → some a ≡ some b → a ≡ b
@@ -23,16 +24,16 @@ not_told n (r ∷ rs) t w e q =
     (λ h.
     let s : some (tells r) ≡ some t = rw h at e in
     let m : r.number ≡ n = cc in
-    clash (eq_eqb r.number n m) (not_true (eqb r.number n) (and_left (not (eqb r.number n)) (without n rs) w)))
-    (λ h. not_told n rs t (and_right (not (eqb r.number n)) (without n rs) w) (rw h at e) q)
+    clash (eq-eqb r.number n m) (not-true (eqb r.number n) (and_parts (not (eqb r.number n)) (without n rs) w).0))
+    (λ h. not_told n rs t (and_parts (not (eqb r.number n)) (without n rs) w).1 (rw h at e) q)
 
 -- nor is it the number of an entry
 not_entry : (n : ℕ) (rs : List Refusal) (k : ℕ) → without n rs ≡ true → k < length rs → n ≡ (entry rs k).number → ⊥
 unfolding without
 not_entry n [] k w l q = not-suc-le-zero l
 not_entry n (r ∷ rs) zero w l q =
-    clash (eq_eqb r.number n (sym q)) (not_true (eqb r.number n) (and_left (not (eqb r.number n)) (without n rs) w))
-not_entry n (r ∷ rs) (suc k) w l q = not_entry n rs k (and_right (not (eqb r.number n)) (without n rs) w) (le_of_suc-le-suc l) q
+    clash (eq-eqb r.number n (sym q)) (not-true (eqb r.number n) (and_parts (not (eqb r.number n)) (without n rs) w).0)
+not_entry n (r ∷ rs) (suc k) w l q = not_entry n rs k (and_parts (not (eqb r.number n)) (without n rs) w).1 (le_of_suc-le-suc l) q
 
 -- the entry at hand
 here : (r : Refusal) (rs : List Refusal) → distinct (r ∷ rs) ≡ true → Exactly (r ∷ rs) 0
@@ -42,7 +43,7 @@ here r rs d =
       when = λ h n. rw h;
       only = λ i e. test r.holds
           (λ h. (h, refl, sym (ap (λ (t : Told). t.index) (told_same (rw h at e)))))
-          (λ h. absurd (not_told r.number rs (record { number = r.number; index = i }) (and_left (without r.number rs) (distinct rs) d) (rw h at e) refl));
+          (λ h. absurd (not_told r.number rs (record { number = r.number; index = i }) (and_parts (without r.number rs) (distinct rs) d).0 (rw h at e) refl));
     }
 
 -- an entry further on
@@ -50,9 +51,9 @@ later : (r : Refusal) (rs : List Refusal) (k : ℕ) → k < length rs → distin
 unfolding lowest any_holds distinct
 later r rs k l d x =
     record {
-      when = λ h n. rw (or_not_left r.holds (any_holds (take k rs)) n) (x.when h (or_not_right r.holds (any_holds (take k rs)) n));
+      when = λ h n. rw (or_parts r.holds (any_holds (take k rs)) n).0 (x.when h (or_parts r.holds (any_holds (take k rs)) n).1);
       only = λ i e. test r.holds
-          (λ h. absurd (not_entry r.number rs k (and_left (without r.number rs) (distinct rs) d) l (ap (λ (t : Told). t.number) (told_same (rw h at e)))))
+          (λ h. absurd (not_entry r.number rs k (and_parts (without r.number rs) (distinct rs) d).0 l (ap (λ (t : Told). t.number) (told_same (rw h at e)))))
           (λ h. let o = x.only i (rw h at e) in (o.0, rw h o.1, o.2));
     }
 
@@ -61,7 +62,7 @@ pub exactly : (rs : List Refusal) (k : ℕ) → k < length rs → distinct rs �
 unfolding distinct
 exactly [] k l d = absurd (not-suc-le-zero l)
 exactly (r ∷ rs) zero l d = here r rs d
-exactly (r ∷ rs) (suc k) l d = later r rs k (le_of_suc-le-suc l) d (exactly rs k (le_of_suc-le-suc l) (and_right (without r.number rs) (distinct rs) d))
+exactly (r ∷ rs) (suc k) l d = later r rs k (le_of_suc-le-suc l) d (exactly rs k (le_of_suc-le-suc l) (and_parts (without r.number rs) (distinct rs) d).1)
 
 -- the first of a list that tells nothing does not apply, and the rest tells nothing
 first_not : (r : Refusal) (rs : List Refusal) → lowest (r ∷ rs) ≡ none → (r.holds ≡ false) × (lowest rs ≡ none)

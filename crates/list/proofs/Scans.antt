@@ -9,7 +9,7 @@ use native.Mathlib.Omega.{arith}
 use lib.Dec.{eqb, leb}
 use lib.ListN.{length, drop, get_or, drop_of_length-le}
 use lib.Seq.{drop-cons}
-use Rattle.paper.proofs.Tests.{lt_ltb, le_ltb}
+use Rattle.std.proofs.lemmas.Bool.{lt-ltb, le-ltb}
 use Rattle.list.specs.Listed.{patterns_of, start_of, end_of, falls, last_from, ends_wrong, sized, first_where}
 use Rattle.list.specs.Claims.{SoundEnds}
 use Rattle.list.proofs.First.{first_only}
@@ -26,11 +26,11 @@ start_before ends (suc i) h = simp unary_clauses
 module _ (count previous : ℕ) (ends : List ℕ) (i e : ℕ) (inside : i < length ends) (next : e ≡ end_of ends i) where
   pub wrong_here : e < previous → ends_wrong previous count (drop i ends) ≡ true
   unfolding falls
-  wrong_here h = rw (drop-cons ends i 0 inside, ← next, lt_ltb e previous h)
+  wrong_here h = rw (drop-cons ends i 0 inside, ← next, lt-ltb e previous h)
 
   pub wrong_next : previous ≤ e → ends_wrong e count (drop (i + 1) ends) ≡ ends_wrong previous count (drop i ends)
   unfolding falls last_from
-  wrong_next h = rw (add-one i, drop-cons ends i 0 inside, ← next, le_ltb e previous h)
+  wrong_next h = rw (add-one i, drop-cons ends i 0 inside, ← next, le-ltb e previous h)
 
 pub wrong_last : (count previous : ℕ) (ends : List ℕ) (i : ℕ) → length ends ≤ i → ends_wrong previous count (drop i ends) ≡ not (eqb previous count)
 unfolding falls last_from

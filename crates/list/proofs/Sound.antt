@@ -1,4 +1,4 @@
--- What a list that is not refused has, and when each refusal is given: the laws that callers of `list::check_list` cite.
+-- What a list that is not refused has, and when each refusal is given: the laws that callers of `List::check` cite.
 use mathlib.Core.Path.{◌≡◌, refl, sym, ap, ◌∙◌}
 use mathlib.Core.Bool.{Bool, true, false, not}
 use mathlib.Core.List.{List, []}
@@ -9,43 +9,81 @@ use lib.Dec.{eqb}
 use lib.ListN.{length, get_or}
 use Rattle.paper.specs.Lists.{pick}
 use Rattle.paper.specs.Patterns.{Filled}
-use Rattle.paper.proofs.Tests.{clash, eqb_eq, eqb_ne, ne_eqb, ltb_le, le_ltb, or_not_left, or_not_right, not_false}
+use Rattle.std.proofs.lemmas.Bool.{eqb-true, eqb-false, ne_eqb, ltb-false, le-ltb, not-false, or_parts}
+use Rattle.paper.proofs.Tests.{clash}
 use Rattle.list.specs.Limits.{last_kind, most_listed, most_bytes}
 use Rattle.list.specs.Refusals.{Told, is_found, lowest, entry, without, distinct, Exactly}
 use Rattle.list.specs.Listed.{patterns_of, ends_wrong, is_empty, exceeds, first_where, refusals}
-use Rattle.list.specs.Answers.{told}
+use Rattle.std.specs.Prelude.{Result, Ok, Err, IfOk, IsOk, IsErrAnd}
+use Rattle.paper.specs.Patterns.{Kind as Search, standard, leftmost, longest, first}
+use Rattle.list.specs.Answers.{refused, told, kind_named}
 use Rattle.list.specs.Claims.{Sound, GivenExactly}
-use Rattle.list.specs.declared.Listing.{Listing}
-use Rattle.list.specs.declared.Listing.TheVariants.{Fine, BadKind, BadEnds, TooMany, Empty, TooLong}
+use Rattle.list.specs.declared.Kind.{Kind}
+use Rattle.list.specs.declared.Kind.TheVariants.{Standard, LeftmostLongest, LeftmostFirst}
+use Rattle.list.specs.declared.Refusal.{Refusal}
+use Rattle.list.specs.declared.Refusal.TheVariants.{BadKind, BadEnds, TooMany, Empty, TooLong}
 use Rattle.list.proofs.First.{first_none, first_only}
 use Rattle.list.proofs.Refusals.{exactly, none_at}
 use Rattle.list.proofs.Patterns.{patterns_length, member_at}
 use Rattle.list.proofs.Checks.{ends_sound, sound_right, gives_fine}
 
+told_some : {t : Told} → some t ≡ none → ⊥
+told_some e = let z : ◌≡◌ {A = ℕ} 0 1 = cc in omega arith
+
 not_found : (o : Option ℕ) → is_found o ≡ false → o ≡ none
 not_found none h = refl
 not_found (some i) h = clash refl h
 
--- the answer that tells a number and an index
-abbrev answer : Option Told → Listing
-answer none = Fine
-answer (some t) =
-    pick (eqb t.number 1) BadKind
+-- a kind by its name
+abbrev kind_by : Search → Kind
+kind_by standard = Standard
+kind_by (leftmost longest) = LeftmostLongest
+kind_by (leftmost first) = LeftmostFirst
+
+by_name : (kind : Kind) → kind_by (kind_named kind) ≡ kind
+by_name Standard = refl
+by_name LeftmostLongest = refl
+by_name LeftmostFirst = refl
+
+-- the answer to a list of a kind that tells a number and an index
+abbrev answer : Search → Option Told → Result Kind Refusal
+answer search none = Ok (kind_by search)
+answer search (some t) =
+    Err (pick (eqb t.number 1) BadKind
     (pick (eqb t.number 2) BadEnds
     (pick (eqb t.number 3) TooMany
-    (pick (eqb t.number 4) (Empty t.index) (TooLong t.index))))
+    (pick (eqb t.number 4) (Empty t.index) (TooLong t.index)))))
 
-answer_told : (a : Listing) → answer (told a) ≡ a
-answer_told Fine = refl
-answer_told BadKind = refl
-answer_told BadEnds = refl
-answer_told TooMany = refl
-answer_told (Empty i) = refl
-answer_told (TooLong i) = refl
+answer_told : (search : Search) (a : Result Kind Refusal) → IfOk a (λ kind. kind_named kind ≡ search) → answer search (told a) ≡ a
+answer_told search (Ok kind) named = ap Ok (ap kind_by (sym named) ∙ by_name kind)
+answer_told search (Err BadKind) named = refl
+answer_told search (Err BadEnds) named = refl
+answer_told search (Err TooMany) named = refl
+answer_told search (Err (Empty i)) named = refl
+answer_told search (Err (TooLong i)) named = refl
 
--- so no two answers meet the promise of `check_list`: those that tell the same are the same
-pub told_only : (a b : Listing) → told a ≡ told b → a ≡ b
-told_only a b e = sym (answer_told a) ∙ ap answer e ∙ answer_told b
+-- so no two answers meet the promise of `List::check`: those that tell the same and name the same kind are the same
+pub told_only : (search : Search) (a b : Result Kind Refusal) → IfOk a (λ kind. kind_named kind ≡ search) → IfOk b (λ kind. kind_named kind ≡ search)
+    → told a ≡ told b → a ≡ b
+told_only search a b named_a named_b e = sym (answer_told search a named_a) ∙ ap (answer search) e ∙ answer_told search b named_b
+
+-- an answer handed on from a number that names no kind
+pub tells_kind : (why : Refusal) (r : Result Kind Refusal) → why ≡ BadKind → IsErrAnd r (λ e. e ≡ why) → told r ≡ refused 1 0
+tells_kind why (Ok kind) bad is = absurd is
+tells_kind why (Err e) bad is = ap (λ (w : Refusal). told (Err w)) (is ∙ bad)
+
+-- an answer that tells nothing is no refusal
+untold_ok : (r : Result Kind Refusal) → told r ≡ none → IsOk r
+untold_ok (Ok kind) e = refl
+untold_ok (Err BadKind) e = absurd (told_some e)
+untold_ok (Err BadEnds) e = absurd (told_some e)
+untold_ok (Err TooMany) e = absurd (told_some e)
+untold_ok (Err (Empty i)) e = absurd (told_some e)
+untold_ok (Err (TooLong i)) e = absurd (told_some e)
+
+ok_untold : (r : Result Kind Refusal) → IsOk r → told r ≡ none
+ok_untold (Ok kind) ok = refl
+ok_untold (Err why) ok = clash ok refl
 
 module _ (kind : ℕ) (bytes ends values : List ℕ) where
   -- the patterns, and what the test of a size says of each
@@ -63,27 +101,27 @@ module _ (kind : ℕ) (bytes ends values : List ℕ) where
       let counts = not (eqb (length ends) (length values)) in
       let wrong = ends_wrong 0 (length bytes) ends in
       record {
-        known = ltb_le last_kind kind (free 0 (omega arith));
-        paired = eqb_eq (length ends) (length values) (not_false (eqb (length ends) (length values)) (or_not_left counts wrong (free 1 (omega arith))));
-        cut = ends_sound bytes ends (or_not_right counts wrong (free 1 (omega arith)));
-        few = ltb_le most_listed (length ends) (free 2 (omega arith));
-        filled = λ i l. let n = eqb_ne (length (get_or ps i [])) 0 (passed is_empty (free 3 (omega arith)) i l) in omega arith;
-        short = λ i l. ltb_le most_bytes (length (get_or ps i [])) (passed (exceeds most_bytes) (free 4 (omega arith)) i l);
+        known = ltb-false last_kind kind (free 0 (omega arith));
+        paired = eqb-true (length ends) (length values) (not-false (eqb (length ends) (length values)) (or_parts counts wrong (free 1 (omega arith))).0);
+        cut = ends_sound bytes ends (or_parts counts wrong (free 1 (omega arith))).1;
+        few = ltb-false most_listed (length ends) (free 2 (omega arith));
+        filled = λ i l. let n = eqb-false (length (get_or ps i [])) 0 (passed is_empty (free 3 (omega arith)) i l) in omega arith;
+        short = λ i l. ltb-false most_bytes (length (get_or ps i [])) (passed (exceeds most_bytes) (free 4 (omega arith)) i l);
       }
 
   -- a list that is fine is sound, and a sound one is fine
-  pub fine_sound : (r : Listing) → told r ≡ lowest (refusals kind bytes ends values) → r ≡ Fine → Sound kind bytes ends values
-  fine_sound r e f = untold_sound (sym e ∙ ap told f)
+  pub fine_sound : (r : Result Kind Refusal) → told r ≡ lowest (refusals kind bytes ends values) → IsOk r → Sound kind bytes ends values
+  fine_sound r e ok = untold_sound (sym e ∙ ok_untold r ok)
 
-  pub sound_untold : Sound kind bytes ends values → told Fine ≡ lowest (refusals kind bytes ends values)
+  pub sound_untold : Sound kind bytes ends values → none ≡ lowest (refusals kind bytes ends values)
   sound_untold s =
       gives_fine kind bytes ends values
       (record { known = s.known; paired = s.paired; right = sound_right bytes ends s.cut; few = s.few })
       (sym (first_only [] is_empty ps none (λ j k. let l = s.filled j (omega (arith, patterns_length bytes ends)) in ne_eqb (length (get_or ps j [])) 0 (λ z. omega arith))))
-      (sym (first_only [] (exceeds most_bytes) ps none (λ j k. le_ltb most_bytes (length (get_or ps j [])) (s.short j (omega (arith, patterns_length bytes ends))))))
+      (sym (first_only [] (exceeds most_bytes) ps none (λ j k. le-ltb most_bytes (length (get_or ps j [])) (s.short j (omega (arith, patterns_length bytes ends))))))
 
-  pub sound_fine : (r : Listing) → told r ≡ lowest (refusals kind bytes ends values) → Sound kind bytes ends values → r ≡ Fine
-  sound_fine r e s = told_only r Fine (e ∙ sym (sound_untold s))
+  pub sound_fine : (r : Result Kind Refusal) → told r ≡ lowest (refusals kind bytes ends values) → Sound kind bytes ends values → IsOk r
+  sound_fine r e s = untold_ok r (e ∙ sym (sound_untold s))
 
   numbers_distinct : distinct (refusals kind bytes ends values) ≡ true
   unfolding refusals distinct without

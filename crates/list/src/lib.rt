@@ -1,20 +1,28 @@
 // Inner: the pattern list as it is lent, with its readers and refusals 1 to 5. Nothing here writes to a buffer.
 #![tactic(auto)]
 
-ghost use Rattle.std.specs.Prelude.{◌≡◌, false, ◌&&◌, List, ℕ, ◌<◌, leb, length};
+ghost use Rattle.std.specs.Prelude.{◌≡◌, false, ◌&&◌, List as Numbers, ℕ, ◌<◌, leb, length, IfOk};
 ghost use Rattle.list.specs.Refusals.{lowest};
+ghost use Rattle.list.specs.Kinds.{kind_of};
 ghost use Rattle.list.specs.Listed.{patterns_of, start_of, end_of, falls, ends_wrong, sized, first_where, refusals};
-ghost use Rattle.list.specs.Answers.{told, placed};
+ghost use Rattle.list.specs.Answers.{told, placed, Names, kind_named};
 ghost use Rattle.list.specs.Claims.{SoundEnds};
 
 pub mod limits;
 
-use limits::{LAST_KIND, MOST_BYTES, MOST_LISTED};
+use limits::{MOST_BYTES, MOST_LISTED};
 
-// Whether a list can be built, and if not, why.
-#[derive(Clone, Copy)]
-pub enum Listing {
-    Fine,
+// The kinds of a search.
+#[derive(Clone, Copy, Debug, PartialEq, Eq)]
+pub enum Kind {
+    Standard,
+    LeftmostLongest,
+    LeftmostFirst,
+}
+
+// Why a list can't be built.
+#[derive(Clone, Copy, Debug, PartialEq, Eq)]
+pub enum Refusal {
     BadKind,
     BadEnds,
     TooMany,
@@ -24,11 +32,29 @@ pub enum Listing {
     TooLong(u32),
 }
 
-// The index of a pattern that was looked for.
+// A kind by its number; refusal 1 is for a number above the last.
+impl TryFrom<u32> for Kind {
+    type Error = Refusal;
+
+    ghost try_from_gives = { Names };
+
+    fn try_from(number: u32) -> Result<Kind, Refusal> {
+        match number {
+            0 => Ok(Kind::Standard),
+            1 => Ok(Kind::LeftmostLongest),
+            2 => Ok(Kind::LeftmostFirst),
+            _ => Err(Refusal::BadKind),
+        }
+    }
+}
+
+// A pattern list: the number of its kind, the bytes of the patterns in a row, and an end and a value for each of them.
 #[derive(Clone, Copy)]
-enum Lookup {
-    At(usize),
-    Nothing,
+pub struct List<'a> {
+    pub kind: u32,
+    pub bytes: &'a [u8],
+    pub ends: &'a [u32],
+    pub values: &'a [u32],
 }
 
 pub fn pattern_end(ends: &[u32], i: usize) -> usize
@@ -53,14 +79,12 @@ fn ends_wrong(ends: &[u32], count: usize) -> bool
     ensures { result ≡ ends_wrong 0 count ends.now }
 {
     let mut previous = 0;
-    let mut i = 0;
-    while i < ends.len() {
-        let end = pattern_end(ends, i);
+    for end in ends {
+        let end = *end as usize;
         if end < previous {
             return true;
         }
         previous = end;
-        i += 1;
     }
     previous != count
 }
@@ -72,43 +96,42 @@ fn between(n: usize, least: usize, most: usize) -> bool
 }
 
 // The first pattern that has from `least` to `most` bytes. An empty one and one that is too long are both looked for here.
-fn first_sized(ends: &[u32], least: usize, most: usize) -> Lookup
+fn first_sized(ends: &[u32], least: usize, most: usize) -> Option<usize>
     requires { falls 0 ends.now ≡ false }
-    ensures { (bytes : List ℕ) → SoundEnds bytes ends.now
+    ensures { (bytes : Numbers ℕ) → SoundEnds bytes ends.now
         → placed result ≡ first_where (sized least most) (patterns_of bytes ends.now) }
 {
-    let mut i = 0;
-    while i < ends.len() {
+    for i in 0..ends.len() {
         let size = pattern_end(ends, i) - pattern_start(ends, i);
         if between(size, least, most) {
-            return Lookup::At(i);
+            return Some(i);
         }
-        i += 1;
     }
-    Lookup::Nothing
+    None
 }
 
-// The lowest refusal of 1 to 5 that applies, or `Fine`.
-pub fn check_list(kind: u32, bytes: &[u8], ends: &[u32], values: &[u32]) -> Listing
-    ensures { told result ≡ lowest (refusals kind bytes.now ends.now values.now) }
-{
-    if LAST_KIND < kind {
-        return Listing::BadKind;
+impl List<'_> {
+    // The lowest refusal of 1 to 5 that applies, or the kind.
+    pub fn check(self) -> Result<Kind, Refusal>
+        ensures told { told result ≡ lowest (refusals self.entry.kind self.entry.bytes.now self.entry.ends.now self.entry.values.now) }
+        ensures kind { IfOk result (λ kind. kind_named kind ≡ kind_of self.entry.kind) }
+    {
+        let kind = Kind::try_from(self.kind)?;
+        if self.ends.len() != self.values.len() {
+            return Err(Refusal::BadEnds);
+        }
+        if ends_wrong(self.ends, self.bytes.len()) {
+            return Err(Refusal::BadEnds);
+        }
+        if MOST_LISTED < self.ends.len() {
+            return Err(Refusal::TooMany);
+        }
+        if let Some(i) = first_sized(self.ends, 0, 0) {
+            return Err(Refusal::Empty(i as u32));
+        }
+        if let Some(i) = first_sized(self.ends, MOST_BYTES + 1, self.bytes.len()) {
+            return Err(Refusal::TooLong(i as u32));
+        }
+        Ok(kind)
     }
-    if ends.len() != values.len() {
-        return Listing::BadEnds;
-    }
-    if ends_wrong(ends, bytes.len()) {
-        return Listing::BadEnds;
-    }
-    if MOST_LISTED < ends.len() {
-        return Listing::TooMany;
-    }
-    if let Lookup::At(i) = first_sized(ends, 0, 0) {
-        return Listing::Empty(i as u32);
-    }
-    if let Lookup::At(i) = first_sized(ends, MOST_BYTES + 1, bytes.len()) {
-        return Listing::TooLong(i as u32);
-    }
-    Listing::Fine
 }

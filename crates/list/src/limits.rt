@@ -1,6 +1,4 @@
 // The limits of document 01 for the code: specs/Limits.antt has the same numbers for the promises.
-ghost use Rattle.std.specs.Prelude.{◌≡◌};
-ghost use Rattle.list.specs.Limits.{smaller};
 
 pub const LAST_KIND: u32 = 2;
 
@@ -18,10 +16,3 @@ pub const MOST_TEXT: usize = 65536;
 pub const BLOCK: u32 = 256;
 
 pub const WINDOW: u32 = 16;
-
-// Where slots lie in several slices, the shortest counts.
-pub fn least(a: usize, b: usize) -> usize
-    ensures { result ≡ smaller a b }
-{
-    if a < b { a } else { b }
-}

@@ -12,20 +12,14 @@ use Rattle.search.specs.declared.Search.{Search}
 use Rattle.search.specs.Values.{Which, Outcome, gives, ends, refuses}
 use Rattle.search.specs.Searches.{next_of}
 use Rattle.search.proofs.Claims.{claims}
-use Rattle.meaning.specs.Repeated.{handed_back, answers, Saying, match, end, refusal, said}
+use Rattle.meaning.specs.Repeated.{handed_back, answers, refusal, said}
 use Rattle.meaning.specs.Demands.{value_in, HasTaken, FewMoves}
 use Rattle.meaning.proofs.Repeating.{first_said, others, Turn, each_answer}
 
 -- a refusal is neither a match nor the end
-is_refusal : Saying → ℕ
-is_refusal (match m) = 0
-is_refusal end = 0
-is_refusal (refusal n) = 1
-
 no_refusal : (n : ℕ) (l : List (Match ℕ)) → refusal n ≡ first_said l → ⊥
-unfolding is_refusal
-no_refusal n [] e = omega (arith, ap is_refusal e)
-no_refusal n (m ∷ l) e = omega (arith, ap is_refusal e)
+no_refusal n [] e = cc
+no_refusal n (m ∷ l) e = cc
 
 -- ---- an answer
 

@@ -1,5 +1,6 @@
 -- The walk of a leftmost call over tables that agree is the paper's: with a match in hand it gives the match that the paper's call gives, and
 -- up to the first output it goes where the paper's call goes. So the answer of the walk is what the paper's call gives.
+use Rattle.std.specs.Prelude.{Some, None, Ok}
 use mathlib.Core.Path.{◌≡◌, refl, sym, ap, ◌∙◌, subst}
 use mathlib.Core.Bool.{true}
 use mathlib.Core.List.{List, [], ◌∷◌, cons≢nil, Memᴰ}
@@ -12,14 +13,13 @@ use lib.Seq.{get_or-drop, drop-drop}
 use Rattle.paper.specs.Patterns.{Entry, Choice, leftmost}
 use Rattle.paper.specs.Matches.{Occurrence}
 use Rattle.paper.specs.Automaton.{Machine, machine, Walk, step, chain, output, end_at, keeping}
-use Rattle.paper.proofs.Tests.{eq_eqb, ne_eqb}
+use Rattle.std.proofs.lemmas.Bool.{eq-eqb, ne_eqb}
 use Rattle.paper.proofs.Machines.{state_root}
 use Rattle.list.specs.Limits.{alphabet}
 use Rattle.list.specs.Claims.{Bytes}
 use Rattle.table.specs.Agrees.{Tables, Agrees, GivesAt, Chain, state_cell}
 use Rattle.table.specs.declared.CellId.{CellId}
 use Rattle.table.specs.declared.Row.{Row}
-use Rattle.table.specs.declared.Shown.TheVariants as shown
 use Rattle.table.proofs.Agrees.{cell_root}
 use Rattle.table.proofs.Claims as readers
 use Rattle.search.specs.declared.Search.{Search}
@@ -28,7 +28,6 @@ use Rattle.search.specs.Values as search
 use Rattle.search.specs.Values.{root, cell, value_of, match_of, Outcome, gives, ends, refuses}
 use Rattle.search.specs.Walk.{step_of}
 use Rattle.search.specs.Searches.{shown_at, seek_of, keep_of, rest, on_sought, on_kept, after_leftmost, at_output, at_end, walk_of}
-use Rattle.search.proofs.Named.{on_to}
 use Rattle.meaning.specs.Demands.{value_in}
 use Rattle.meaning.proofs.Steps.{At, steps}
 use Rattle.meaning.proofs.Lengths.{step_length, output_length}
@@ -58,7 +57,7 @@ module _ (T : Tables) (choice : Choice) (es : List Entry) (values : List ℕ) (A
   -- ---- what stands at the output place of a value
 
   -- where nothing is put out, nothing stands there
-  silent : (v : Search) → Chain T values v.output [] → shown_at T v ≡ shown.Nothing
+  silent : (v : Search) → Chain T values v.output [] → shown_at T v ≡ Ok None
   silent v e = ((readers.claims).ended T.outs T.accepted v.output v.place).1 e
 
   -- the first that is put out, with its value and its length
@@ -66,7 +65,7 @@ module _ (T : Tables) (choice : Choice) (es : List Entry) (values : List ℕ) (A
   row_of p x t = record { value = value_in values x.row; length = length x.word; next = t.next }
 
   spoken : (v : Search) (x : Entry) (t : GivesAt T values v.output x) → length x.word ≤ v.place
-      → shown_at T v ≡ shown.Given (row_of v.output x t)
+      → shown_at T v ≡ Ok (Some (row_of v.output x t))
   spoken v x t h = t.given v.place h
 
   -- ---- a byte
@@ -86,7 +85,7 @@ module _ (T : Tables) (choice : Choice) (es : List Entry) (values : List ℕ) (A
   -- where the next byte takes it
   record Next (w : Walk) (n : ℕ) (v : Search) (c : ℕ) : Type 0 where
     value : Search
-    gone : step_of true T v c ≡ on_to value
+    gone : step_of true T v c ≡ Ok value
     here : Here (step M w c) (suc n) value
     shows : Chain T values value.output (output M (step M w c).state)
 
@@ -162,7 +161,7 @@ module _ (T : Tables) (choice : Choice) (es : List Entry) (values : List ℕ) (A
         go : (s : List ℕ) → (step M w c).state ≡ s → kept (match_in values f) v (c ∷ t) ≡ answer_in values size (given M w n (some f) (c ∷ t))
         go [] e =
             let z : u.state.0 ≡ root = there ∙ ap (state_cell T) e ∙ cell_root T in
-            rw (N.gone, eq_eqb u.state.0 root z, given_root M w n c f t e)
+            rw (N.gone, eq-eqb u.state.0 root z, given_root M w n c f t e)
         go (x ∷ s) e = on x s e (output M (step M w c).state) refl N.shows
 
     keep_says : (t : List ℕ) → Keeps t

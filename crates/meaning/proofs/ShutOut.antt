@@ -1,43 +1,31 @@
 -- Each wrong search of ../specs/ShutOut.antt breaks a demand.
+use Rattle.std.proofs.lemmas.List.{take-replicate}
 use mathlib.Core.Path.{◌≡◌, refl, sym, ap, ◌∙◌}
 use mathlib.Core.List.Memᴰ
 use mathlib.Core.List.{List, [], ◌∷◌, map}
-use Prim.Native.Nat.{ℕ, zero, suc, ◌≤◌}
-use native.Mathlib.Nat.{not-suc-le-zero, le_of_suc-le-suc}
+use Prim.Native.Nat.{ℕ, zero, suc}
 use native.Mathlib.Omega.{arith}
-use lib.ListN.{take, replicate}
-use Rattle.paper.proofs.Tests.{ne_eqb}
+use lib.ListN.{replicate}
+use Rattle.std.proofs.lemmas.Bool.{ne_eqb}
 use Rattle.paper.specs.Lists.{same, prefix, those, each}
 use Rattle.paper.specs.Patterns.{rows_from}
 use Rattle.paper.specs.Matches.{occurs, between, ending_at, by_end, overlapping}
 use Rattle.paper.specs.Automaton.{is_state, own_of, longest_state, failure, begins, before, is_dead, link, hunt, chain, step, walk}
 use Rattle.paper.specs.Cases.{bytes}
 use Rattle.search.specs.declared.Search.{Search}
-use Rattle.meaning.specs.Repeated.{answers, Saying, match, end, refusal, said}
+use Rattle.meaning.specs.Repeated.{answers, Saying, match, end, said}
 use Rattle.meaning.specs.Demands.{StandardDemands}
 use Rattle.meaning.specs.ShutOut.{alone, having, at_once_the_end, always_one_match, once_with, whole_text_at_once, made_up_count, SaysRight, ShutOut}
-
--- a match has 0, the end 1, a refusal 2
-sort_of : Saying → ℕ
-sort_of (match m) = 0
-sort_of end = 1
-sort_of (refusal n) = 2
-
--- the sort of the last of some sayings
-last_sort : List Saying → ℕ
-last_sort [] = 2
-last_sort (s ∷ []) = sort_of s
-last_sort (s ∷ r ∷ l) = last_sort (r ∷ l)
 
 -- ---- demand 2
 
 at_once_the_end_lem : StandardDemands at_once_the_end (alone (bytes "a")) (0 ∷ []) (bytes "a") → ⊥
-unfolding last_sort sort_of answers prefix those each rows_from occurs between ending_at by_end overlapping
-at_once_the_end_lem D = let e : ◌≡◌ {A = ℕ} 1 0 = ap last_sort (D.overlapping_says 1) in omega (arith, e)
+unfolding answers prefix those each rows_from occurs between ending_at by_end overlapping
+at_once_the_end_lem D = cc (D.overlapping_says 1)
 
 always_one_match_lem : StandardDemands always_one_match (alone (bytes "a")) (0 ∷ []) (bytes "a") → ⊥
-unfolding last_sort sort_of answers prefix those each rows_from occurs between ending_at by_end overlapping
-always_one_match_lem D = let e : ◌≡◌ {A = ℕ} 0 1 = ap last_sort (D.overlapping_says 2) in omega (arith, e)
+unfolding answers prefix those each rows_from occurs between ending_at by_end overlapping
+always_one_match_lem D = cc (D.overlapping_says 2)
 
 -- ---- demand 3
 
@@ -48,24 +36,19 @@ ends_again p given place moves k zero = refl
 ends_again p given place moves k (suc n) =
     rw (ne_eqb (suc place) 0 (λ e. omega (arith, e))) (ap (λ (r : List Saying). end ∷ r) (ends_again p given place moves moves n))
 
-first_ends : (n k : ℕ) → n ≤ k → take n (replicate k end) ≡ replicate n end
-first_ends zero k h = refl
-first_ends (suc n) zero h = absurd (not-suc-le-zero h)
-first_ends (suc n) (suc k) h = ap (λ (r : List Saying). end ∷ r) (first_ends n k (le_of_suc-le-suc h))
-
 whole_text_says : SaysRight whole_text_at_once (bytes "abc") (bytes "abcd")
 unfolding answers prefix those each rows_from occurs between ending_at by_end overlapping
 whole_text_says zero = refl
 whole_text_says (suc n) =
     ap (λ (r : List Saying). match (record { start = 0; end = 3; payload = 0 }) ∷ r)
-    (ends_again (bytes "abc") (having 4 5) 3 5 5 n ∙ sym (first_ends n (suc n) (omega arith)))
+    (ends_again (bytes "abc") (having 4 5) 3 5 5 n ∙ sym (take-replicate n (suc n) end (omega arith)))
 
 made_up_says : SaysRight made_up_count (bytes "ab") (bytes "ab")
 unfolding answers prefix those each rows_from occurs between ending_at by_end overlapping
 made_up_says zero = refl
 made_up_says (suc n) =
     ap (λ (r : List Saying). match (record { start = 0; end = 2; payload = 0 }) ∷ r)
-    (ends_again (bytes "ab") (having 2 3) 1 2 3 n ∙ sym (first_ends n (suc n) (omega arith)))
+    (ends_again (bytes "ab") (having 2 3) 1 2 3 n ∙ sym (take-replicate n (suc n) end (omega arith)))
 
 whole_text_at_once_lem : StandardDemands whole_text_at_once (alone (bytes "abc")) (0 ∷ []) (bytes "abcd") → ⊥
 unfolding answers same prefix those rows_from is_state own_of longest_state failure begins before is_dead link hunt chain step walk

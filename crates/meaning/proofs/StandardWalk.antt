@@ -1,6 +1,7 @@
 -- The walk of a call of a standard search, over tables of kind Standard that agree: the value that it moves stands where the paper's walk over the bytes
 -- taken so far is, and it comes to the first output or to the text's end. Overlapping and plain search differ in what they have left to say and in where
 -- their walks begin again, which are parameters here.
+use Rattle.std.specs.Prelude.{Some, None, Ok}
 use mathlib.Core.Path.{◌≡◌, refl, sym, ap, ◌∙◌}
 use mathlib.Core.Bool.{Bool, false}
 use mathlib.Core.List.Memᴰ
@@ -15,20 +16,20 @@ use Rattle.paper.specs.Lists.{pick}
 use Rattle.paper.specs.Patterns.{Entry, standard}
 use Rattle.paper.specs.Matches.{Occurrence}
 use Rattle.paper.specs.Automaton.{Machine, machine, chain, output, Walk, fresh, step, walk}
-use Rattle.paper.proofs.Tests.{test, ltb_lt, ltb_le}
+use Rattle.std.proofs.lemmas.Bool.{ltb-true, ltb-false}
+use Rattle.paper.proofs.Tests.{test}
 use Rattle.paper.proofs.Moves.{moves_bound}
 use Rattle.paper.proofs.Machines.{state_root}
 use Rattle.list.specs.Claims.{Bytes}
 use Rattle.table.specs.Agrees.{Tables, Agrees, Chain, state_cell}
 use Rattle.table.specs.declared.Row.{Row}
-use Rattle.table.specs.declared.Shown.TheVariants as shown
 use Rattle.table.proofs.Agrees.{cell_root}
 use Rattle.table.proofs.Claims as readers
 use Rattle.search.specs.declared.Search.{Search}
 use Rattle.search.specs.Values.{root, cell, value_of, begun}
 use Rattle.search.specs.Walk.{step_of}
 use Rattle.search.specs.Searches.{shown_at, seek_of, rest}
-use Rattle.search.proofs.Named.{on_to, output_at, ends_at}
+use Rattle.search.proofs.Named.{output_at, ends_at}
 use Rattle.meaning.specs.Demands.{value_in}
 use Rattle.meaning.proofs.Steps.{At, Stepping, steps}
 use Rattle.meaning.proofs.Lengths.{step_length, output_length}
@@ -78,16 +79,16 @@ pub record Standing (T : Tables) (es : List Entry) (values text : List ℕ) (beg
 -- ---- the look for an output, by its ways
 
 module _ (falling : Bool) (T : Tables) where
-  seek_given : (v : Search) (bytes : List ℕ) (row : Row) → shown_at T v ≡ shown.Given row → seek_of falling T v bytes ≡ output_at row v
+  seek_given : (v : Search) (bytes : List ℕ) (row : Row) → shown_at T v ≡ Ok (Some row) → seek_of falling T v bytes ≡ output_at row v
   unfolding seek_of
   seek_given v [] row e = rw e
   seek_given v (c ∷ bytes) row e = rw e
 
-  seek_end : (v : Search) → shown_at T v ≡ shown.Nothing → seek_of falling T v [] ≡ ends_at v
+  seek_end : (v : Search) → shown_at T v ≡ Ok None → seek_of falling T v [] ≡ ends_at v
   unfolding seek_of
   seek_end v e = rw e
 
-  seek_on : (v u : Search) (c : ℕ) (bytes : List ℕ) → shown_at T v ≡ shown.Nothing → step_of falling T v c ≡ on_to u
+  seek_on : (v u : Search) (c : ℕ) (bytes : List ℕ) → shown_at T v ≡ Ok None → step_of falling T v c ≡ Ok u
       → seek_of falling T v (c ∷ bytes) ≡ seek_of falling T u bytes
   unfolding seek_of
   seek_on v u c bytes e k = rw (e, k)
@@ -128,10 +129,10 @@ module _ (T : Tables) (es : List Entry) (values text : List ℕ) (A : Agrees T s
 
   -- what is shown there: the first of the entries, or nothing
   shows_first : {w : Walk} {x : Entry} {xs : List Entry} {v : Search} (H : Stands w (x ∷ xs) v)
-      → shown_at T v ≡ shown.Given (row_of values x H.chain.0.next)
+      → shown_at T v ≡ Ok (Some (row_of values x H.chain.0.next))
   shows_first {x = x} {v = v} H = H.chain.0.given v.place (H.fit x (Memᴰ.head refl))
 
-  shows_nothing : {w : Walk} {v : Search} → Stands w [] v → shown_at T v ≡ shown.Nothing
+  shows_nothing : {w : Walk} {v : Search} → Stands w [] v → shown_at T v ≡ Ok None
   shows_nothing {v = v} H = ((readers.claims).ended T.outs T.accepted v.output v.place).1 H.chain
 
   -- its output place is one of the outputs, or none
@@ -260,9 +261,9 @@ module _ (T : Tables) (es : List Entry) (values text : List ℕ) (A : Agrees T s
     comes_by zero w (x ∷ xs) v H h = comes_here w x xs v H
     comes_by (suc n) w [] v H h =
         test (ltb v.place (length text))
-        (λ e. let more = ltb_lt v.place (length text) e in
+        (λ e. let more = ltb-true v.place (length text) e in
         comes_next w v H more (comes_by n (next H more) (output M (next H more).state) (moved H more) (next_stands H more) (omega arith)))
-        (λ e. comes_last w v H (ltb_le v.place (length text) e))
+        (λ e. comes_last w v H (ltb-false v.place (length text) e))
     comes_by (suc n) w (x ∷ xs) v H h = comes_here w x xs v H
 
     -- what the look for an output comes to from a value

@@ -1,5 +1,7 @@
 -- A byte of a search over tables that agree is a byte of the paper's walk: the hunt along the tables' links is the hunt along the automaton's,
 -- and the output place that a step comes to begins the chain of what the automaton puts out there. For all kinds.
+use Rattle.std.specs.Prelude.{Option, Some, None, Result, Ok, Err}
+use Rattle.std.proofs.Math.Bool.{and-false}
 use mathlib.Core.Path.{◌≡◌, refl, sym, ap, ◌∙◌}
 use mathlib.Core.Bool.{Bool, true, false, ◌&&◌}
 use mathlib.Core.List.{List, [], ◌∷◌}
@@ -11,22 +13,20 @@ use lib.ListN.{length}
 use Rattle.paper.specs.Lists.{snoc}
 use Rattle.paper.specs.Patterns.{Entry, Kind, standard, leftmost}
 use Rattle.paper.specs.Automaton.{Machine, machine, is_state, failure, is_dead, link, at_root, hunt, landed, Walk, step, chain, output}
-use Rattle.paper.proofs.Tests.{test, clash, and_right, eqb_eq, ne_eqb}
+use Rattle.std.proofs.lemmas.Bool.{eqb-true, ne_eqb, and_parts}
+use Rattle.paper.proofs.Tests.{test, clash}
 use Rattle.paper.proofs.Longest.{longest_length, longest_is_state}
 use Rattle.paper.proofs.Machines.{machine_states, state_root, never_starts, never_before}
 use Rattle.list.specs.Limits.{alphabet}
 use Rattle.table.specs.Agrees.{Tables, Agrees, Chain, ChainOf, state_cell, probe_in, link_in}
 use Rattle.table.specs.declared.CellId.{CellId}
-use Rattle.table.specs.declared.Begins.{Begins}
-use Rattle.table.specs.declared.Begins.TheVariants as begins
-use Rattle.table.specs.declared.Linked.TheVariants as linked
+use Rattle.table.specs.declared.Damage.{Damage}
 use Rattle.table.proofs.Agrees.{cell_root}
 use Rattle.search.specs.declared.Search.{Search}
 use Rattle.search.specs.Values.{root, cell, value_of}
 use Rattle.search.specs.Walk.{falls_at, byte_taken, take_of, take_in, begins_in, step_of}
 use Rattle.search.proofs.Walking.{at_child, at_root_lem, at_dead, at_link}
-use Rattle.search.proofs.Advancing.{step_begun, step_silent}
-use Rattle.search.proofs.Named.{taken_to, on_to}
+use Rattle.search.proofs.Advancing.{step_goes}
 
 -- the walk of a leftmost kind falls at dead
 abbrev pub falls : Kind → Bool
@@ -43,15 +43,10 @@ pub record At (T : Tables) (es : List Entry) (w : Walk) (v : Search) : Type 0 wh
 pub record Stepping (T : Tables) (kind : Kind) (es : List Entry) (values : List ℕ) (w : Walk) (v : Search) (c : ℕ) : Type 0 where
   pub place : ℕ
   pub gone : step_of (falls kind) T v c
-      ≡ on_to
+      ≡ Ok
       (value_of (cell (state_cell T (step (machine kind es) w c).state)) place (v.place + 1) (step (machine kind es) w c).moves)
   pub shows : Chain T values place (output (machine kind es) (step (machine kind es) w c).state)
   pub state : is_state es (step (machine kind es) w c).state ≡ true
-
--- a test that fails, fails with any other
-and_never : (b : Bool) → (b && false) ≡ false
-and_never true = refl
-and_never false = refl
 
 -- only a leftmost kind has dead links
 dead_falls : (kind : Kind) (es : List Entry) (s : List ℕ) → is_dead (machine kind es) s ≡ true → falls kind ≡ true
@@ -69,14 +64,11 @@ module _ (T : Tables) (kind : Kind) (es : List Entry) (values : List ℕ) (A : A
 
   -- root's cell is no other state's
   not_root : (x : ℕ) (xs : List ℕ) → S (x ∷ xs) ≡ true → state_cell T (x ∷ xs) ≡ root → ⊥
-  not_root x xs h e = cons_nil (A.apart (x ∷ xs) [] h (state_root es) (e ∙ sym (cell_root T)))
-    where
-      cons_nil : x ∷ xs ≡ [] → ⊥
-      cons_nil q = absurd (omega (arith, ap length q))
+  not_root x xs h e = cc (A.apart (x ∷ xs) [] h (state_root es) (e ∙ sym (cell_root T)))
 
   -- no walk falls at a state
   stays : (s : List ℕ) → S s ≡ true → falls_at (falls kind) (cell (state_cell T s)) ≡ false
-  stays s h = rw (ne_eqb (state_cell T s) 1 (A.living s h)) (and_never (falls kind))
+  stays s h = rw (ne_eqb (state_cell T s) 1 (A.living s h)) (and-false (falls kind))
 
   -- a failure is a state, and shorter
   failed_state : (x : ℕ) (xs : List ℕ) → S (failure S (x ∷ xs)) ≡ true
@@ -116,7 +108,7 @@ module _ (T : Tables) (kind : Kind) (es : List Entry) (values : List ℕ) (A : A
           → take_of (suc n) (falls kind) (probe_in T) (link_in T) here c m ≡ byte_taken (cell (state_cell T [])) (m + 1)
       unfolding link
       takes_dead d =
-          let linked : link_in T (state_cell T (x ∷ xs)) ≡ linked.To (cell 1) = rw d at (A.links x xs h) in
+          let linked : link_in T (state_cell T (x ∷ xs)) ≡ Ok (cell 1) = rw d at (A.links x xs h) in
           rw (cell_root T)
           (at_dead (falls kind) (probe_in T) (link_in T) c n here (cell 1) m (A.childless (x ∷ xs) c h byte k) (not_root x xs h) linked
           (rw (dead_falls kind es (x ∷ xs) d)))
@@ -126,7 +118,7 @@ module _ (T : Tables) (kind : Kind) (es : List Entry) (values : List ℕ) (A : A
           ≡ take_of n (falls kind) (probe_in T) (link_in T) (cell (state_cell T (failure S (x ∷ xs)))) c (m + 1)
       unfolding link
       takes_on d =
-          let linked : link_in T (state_cell T (x ∷ xs)) ≡ linked.To (cell (state_cell T (failure S (x ∷ xs)))) = rw d at (A.links x xs h) in
+          let linked : link_in T (state_cell T (x ∷ xs)) ≡ Ok (cell (state_cell T (failure S (x ∷ xs)))) = rw d at (A.links x xs h) in
           at_link (falls kind) (probe_in T) (link_in T) c n here (cell (state_cell T (failure S (x ∷ xs)))) m (A.childless (x ∷ xs) c h byte k) (not_root x xs h)
           linked
           (stays (failure S (x ∷ xs)) (failed_state x xs))
@@ -170,13 +162,13 @@ module _ (T : Tables) (kind : Kind) (es : List Entry) (values : List ℕ) (A : A
 
   -- the byte is taken to where the walk goes, with its moves
   step_taken : (w : Walk) (v : Search) (c : ℕ) → At T es w v → c < alphabet
-      → take_in (falls kind) T v.state c v.moves ≡ taken_to (cell (state_cell T (step M w c).state)) (step M w c).moves
+      → take_in (falls kind) T v.state c v.moves ≡ Ok (cell (state_cell T (step M w c).state), (step M w c).moves)
   unfolding step
   step_taken w v c a byte =
       let h = hunt S (link M) (length w.state) w.state c in
       let m : v.moves + h.links + 1 ≡ w.moves + suc h.links = omega (arith, a.counted) in
       rw (a.there, A.depths w.state a.state)
-      (takes c byte (length w.state) w.state v.moves (omega arith) a.state ∙ ap (taken_to (cell (state_cell T (landed h.found)))) m)
+      (takes c byte (length w.state) w.state v.moves (omega arith) a.state ∙ ap {B = Result (CellId × ℕ) Damage} (λ (k : ℕ). Ok (cell (state_cell T (landed h.found)), k)) m)
 
   -- root puts nothing out
   root_silent : (s : List ℕ) → S s ≡ true → state_cell T s ≡ root → output M s ≡ []
@@ -187,7 +179,7 @@ module _ (T : Tables) (kind : Kind) (es : List Entry) (values : List ℕ) (A : A
   begins_chain : (s : List ℕ) → S s ≡ true → ChainOf T values (begins_in (falls kind) T (cell (state_cell T s))) (output M s)
   begins_chain s h =
       test (falls kind && eqb (state_cell T s) root)
-      (λ e. rw e (root_silent s h (eqb_eq (state_cell T s) root (and_right (falls kind) (eqb (state_cell T s) root) e))))
+      (λ e. rw e (root_silent s h (eqb-true (state_cell T s) root (and_parts (falls kind) (eqb (state_cell T s) root) e).1)))
       (λ e. rw e (A.outputs s h))
 
   pub steps : (w : Walk) (v : Search) (c : ℕ) → At T es w v → c < alphabet → Stepping T kind es values w v c
@@ -196,17 +188,17 @@ module _ (T : Tables) (kind : Kind) (es : List Entry) (values : List ℕ) (A : A
       to : CellId
       to = cell (state_cell T (step M w c).state)
 
-      go : (b : Begins) → begins_in (falls kind) T to ≡ b → ChainOf T values b (output M (step M w c).state) → Stepping T kind es values w v c
-      go (begins.At p) e k = record {
+      go : (b : Result (Option ℕ) Damage) → begins_in (falls kind) T to ≡ b → ChainOf T values b (output M (step M w c).state) → Stepping T kind es values w v c
+      go (Ok (Some p)) e k = record {
         place = p;
-        gone = sym (step_begun (falls kind) T v c _ refl to _ (step_taken w v c a byte) _ refl p e);
+        gone = sym (step_goes (falls kind) T v c _ refl to _ (step_taken w v c a byte) _ refl (Some p) e);
         shows = k;
         state = step_state w c;
       }
-      go begins.Nothing e k = record {
+      go (Ok None) e k = record {
         place = 0;
-        gone = sym (step_silent (falls kind) T v c _ refl to _ (step_taken w v c a byte) _ refl e);
+        gone = sym (step_goes (falls kind) T v c _ refl to _ (step_taken w v c a byte) _ refl None e);
         shows = rw k refl;
         state = step_state w c;
       }
-      go begins.Damage e k = absurd k
+      go (Err d) e k = absurd k

@@ -3,10 +3,8 @@ use mathlib.Core.Path.{◌≡◌}
 use mathlib.Core.List.{List}
 use Prim.Native.Nat.{ℕ, ◌*◌, ◌≤◌, ◌<◌}
 use native.Mathlib.Omega.{arith}
-use lib.Dec.{ltb}
 use lib.ListN.{length}
-use Rattle.paper.proofs.Tests.{test}
-use Rattle.list.specs.Limits.{smaller, last_kind, most_text}
+use Rattle.list.specs.Limits.{last_kind, most_text}
 use Rattle.table.specs.Agrees.{Tables, Rooms}
 use Rattle.search.specs.declared.Search.{Search}
 use Rattle.search.specs.Values.{Which}
@@ -24,16 +22,9 @@ pub record Admissible (T : Tables) (size : ℕ) (v : Search) : Type 0 where
   pub place : v.place ≤ size
   pub moves : v.moves ≤ 2 * v.place
 
--- what is within both is within the smaller
-smaller_both : (n a b : ℕ) → n ≤ a → n ≤ b → n ≤ smaller a b
-smaller_both n a b h k = test (ltb a b) (λ e. rw e h) (λ e. rw e k)
-
 -- cells with room in each column have room in all of them
 slots_enough : (T : Tables) → Rooms T → T.cells ≤ cell_slots T
-slots_enough T R =
-    smaller_both T.cells _ _ R.base_room
-    (smaller_both T.cells _ _ R.link_room
-    (smaller_both T.cells _ _ R.output_room (smaller_both T.cells _ _ R.check_room R.depth_room)))
+slots_enough T R = omega (arith, R)
 
 -- such a value shows no damage
 sound : (T : Tables) (kind size : ℕ) (v : Search) → kind ≤ last_kind → Rooms T → Admissible T size v → ShowsAtFirst T kind size v → ⊥

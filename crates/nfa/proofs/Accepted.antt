@@ -1,15 +1,16 @@
 -- What the accepted patterns of a sound list have, as the tables ask it.
 use mathlib.Core.Path.{◌≡◌, refl, ap, subst}
-use mathlib.Core.Bool.{Bool, true, false, ◌&&◌}
+use mathlib.Core.Bool.{Bool, ◌&&◌}
 use mathlib.Core.List.Memᴰ
 use mathlib.Core.List.{List, [], ◌∷◌, Memᴰ}
 use mathlib.Core.Logic.{⊎_elim}
-use Prim.Native.Nat.{ℕ, zero, suc, ◌+◌, ◌*◌, ◌≤◌, ◌<◌}
+use Prim.Native.Nat.{ℕ, suc, ◌+◌, ◌*◌, ◌≤◌, ◌<◌}
 use native.Mathlib.Decide.{dec_lt}
 use native.Mathlib.Omega.{arith}
 use lib.ListN.{length, length-append}
 use Rattle.paper.specs.Patterns.{Entry, Kind, rows, rows_from, barred, Proper}
-use Rattle.paper.proofs.Tests.{test}
+use Rattle.std.specs.Prelude.{Result, Ok, Err, IsErr}
+use Rattle.paper.proofs.Tests.{test, clash}
 use Rattle.paper.proofs.Acceptance.{rows_from_lem, accepted_listed, proper}
 use Rattle.list.specs.Limits.{alphabet, most_listed, most_bytes}
 use Rattle.list.specs.Kinds.{kind_of}
@@ -21,35 +22,15 @@ use Rattle.list.proofs.Sound.{sound_filled}
 use Rattle.plan.specs.Breadth.{Within}
 use Rattle.trie.specs.Made.{Parted, grown_by, drops_of, accept_on}
 use Rattle.trie.proofs.Accepting.{accept_is}
-use Rattle.links.specs.Linked.{is_leftmost}
 use Rattle.plan.specs.Names.{names}
 use Rattle.plan.proofs.Names.{names_few}
 use Rattle.trie.specs.Trie.{Slots, slots_of}
 use Rattle.trie.specs.Owned.{Owns}
 use Rattle.trie.specs.Made.{Made}
 use Rattle.links.specs.Queue.{Ready}
-use Rattle.nfa.specs.Grown.{accepted_of, counted}
-
--- ---- kinds by their numbers
-
-pub drops_yes : (kind : ℕ) → 2 ≤ kind → true ≡ drops_of (kind_of kind)
-drops_yes zero h = absurd (omega arith)
-drops_yes (suc zero) h = absurd (omega arith)
-drops_yes (suc (suc n)) h = refl
-
-pub drops_no : (kind : ℕ) → kind < 2 → false ≡ drops_of (kind_of kind)
-drops_no zero h = refl
-drops_no (suc zero) h = refl
-drops_no (suc (suc n)) h = absurd (omega arith)
-
-pub leftmost_yes : (kind : ℕ) → 1 ≤ kind → true ≡ is_leftmost (kind_of kind)
-leftmost_yes zero h = absurd (omega arith)
-leftmost_yes (suc zero) h = refl
-leftmost_yes (suc (suc n)) h = refl
-
-pub leftmost_no : (kind : ℕ) → kind < 1 → false ≡ is_leftmost (kind_of kind)
-leftmost_no zero h = refl
-leftmost_no (suc n) h = absurd (omega arith)
+use Rattle.trie.specs.declared.Grown.{Grown as Counts}
+use Rattle.trie.specs.declared.FewStates.{FewStates}
+use Rattle.nfa.specs.Grown.{accepted_of, counted, GrownOk}
 
 -- ---- the accepted patterns
 
@@ -151,3 +132,9 @@ made_room {K} {O} {states} {count} {room} {slots} {es} e m = subst (λ (n : ℕ)
 
 pub ready_room : {kind : Kind} {es : List Entry} {trie : List (List ℕ)} {room slots : ℕ} → room ≡ slots → Ready kind es trie room → Ready kind es trie slots
 ready_room {kind} {es} {trie} e r = subst (λ (n : ℕ). Ready kind es trie n) e r
+
+-- an answer handed on from states that pass the slots
+pub grown_full : (kind : ℕ) (bytes ends : List ℕ) (slots : ℕ) (trie owns notes : List (List ℕ)) (r : Result Counts FewStates) → IsErr r
+    → slots < length (names alphabet (accepted_of kind bytes ends)) → GrownOk kind bytes ends slots trie owns notes r
+grown_full kind bytes ends slots trie owns notes (Ok grown) e l = absurd (clash e refl)
+grown_full kind bytes ends slots trie owns notes (Err why) e l = l

@@ -1,5 +1,5 @@
 -- The trie of a lent list with its links: what the tables hold, and when there is none.
-use Rattle.std.specs.Prelude.{List, ℕ, ◌≤◌, ◌<◌, length}
+use Rattle.std.specs.Prelude.{List, ℕ, ◌≤◌, ◌<◌, length, Result, Ok, Err}
 use Rattle.paper.specs.Patterns.{Entry, accepted}
 use Rattle.list.specs.Limits.{alphabet, smaller}
 use Rattle.list.specs.Kinds.{kind_of}
@@ -8,8 +8,8 @@ use Rattle.plan.specs.Names.{names}
 use Rattle.trie.specs.Trie.{slots_of}
 use Rattle.trie.specs.Owned.{owns_of}
 use Rattle.trie.specs.Made.{Made}
-use Rattle.trie.specs.declared.Grew.{Grew}
-use Rattle.trie.specs.declared.Grew.TheVariants.{On, Full}
+use Rattle.trie.specs.declared.Grown.{Grown as Counts}
+use Rattle.trie.specs.declared.FewStates.{FewStates}
 use Rattle.links.specs.Notes.{notes_of}
 use Rattle.links.specs.Linked.{Linked}
 use Rattle.links.specs.Queue.{Ready}
@@ -30,6 +30,6 @@ pub record Grown (kind : ℕ) (bytes ends : List ℕ) (slots : ℕ) (trie owns n
   pub fit : states ≤ slots
 
 -- the tables hold it; or the states, root and dead counted, pass the slots
-abbrev pub GrownOk : ℕ → List ℕ → List ℕ → ℕ → List (List ℕ) → List (List ℕ) → List (List ℕ) → Grew → Type 0
-GrownOk kind bytes ends slots trie owns notes (On states count) = Grown kind bytes ends slots trie owns notes states count
-GrownOk kind bytes ends slots trie owns notes Full = slots < length (names alphabet (accepted_of kind bytes ends))
+abbrev pub GrownOk : ℕ → List ℕ → List ℕ → ℕ → List (List ℕ) → List (List ℕ) → List (List ℕ) → Result Counts FewStates → Type 0
+GrownOk kind bytes ends slots trie owns notes (Ok grown) = Grown kind bytes ends slots trie owns notes grown.states grown.accepted
+GrownOk kind bytes ends slots trie owns notes (Err few) = slots < length (names alphabet (accepted_of kind bytes ends))

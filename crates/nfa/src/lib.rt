@@ -2,60 +2,54 @@
 #![tactic(auto)]
 
 ghost use Rattle.std.specs.Prelude.{◌≡◌, ◌≤◌, ◌<◌, length};
+ghost use Rattle.list.specs.Answers.{kind_named};
 ghost use Rattle.list.specs.Limits.{smaller};
 ghost use Rattle.list.specs.Kinds.{kind_of};
-ghost use Rattle.list.specs.Claims.{Sound};
+ghost use Rattle.list.specs.Claims.{Bytes, Sound};
 ghost use Rattle.trie.specs.Made.{drops_of};
 ghost use Rattle.links.specs.Linked.{is_leftmost};
 ghost use Rattle.nfa.specs.Grown.{counted, GrownOk};
 
-use list::limits::least;
-use trie::Grew;
+use list::{Kind, List};
+use trie::{FewStates, Grown};
 
 // Whether a kind drops patterns that can't be found.
-#[tactic(auto, using(crate::proofs::Accepted::drops_yes, crate::proofs::Accepted::drops_no))]
-fn drops(kind: u32) -> bool
-    ensures { result ≡ drops_of (kind_of kind) }
+fn drops(kind: Kind) -> bool
+    ensures { result ≡ drops_of (kind_named kind) }
 {
-    if kind < 2 { false } else { true }
+    kind == Kind::LeftmostFirst
 }
 
 // Whether a kind stops at own outputs.
-fn leftmost(kind: u32) -> bool
-    ensures { result ≡ is_leftmost (kind_of kind) }
+fn leftmost(kind: Kind) -> bool
+    ensures { result ≡ is_leftmost (kind_named kind) }
 {
-    if kind < 1 { false } else { true }
+    kind != Kind::Standard
 }
 
 // A number of slots as the trie counts them: no list has so many states that the bound matters.
 fn count(n: usize) -> u32
     ensures { result ≡ counted n }
 {
-    if n < 4294967295 { n as u32 } else { 4294967295 }
+    u32::try_from(n).unwrap_or(u32::MAX)
 }
 
-// The trie of the accepted patterns and its links, or that its states pass the slots lent.
+// The trie of the accepted patterns and its links, unless its states pass the slots lent.
 pub fn grow(
-    kind: u32,
-    bytes: &[u8],
-    ends: &[u32],
-    values: &[u32],
+    kind: Kind,
+    list: List<'_>,
     trie: &mut [[u32; 5]],
     owns: &mut [[u32; 2]],
     notes: &mut [[u32; 6]],
-) -> Grew
-    requires { Sound kind bytes.now ends.now values.now }
-    ensures { GrownOk kind bytes.now ends.now (smaller (length trie.old) (length notes.old))
+) -> Result<Grown, FewStates>
+    requires sound { Sound list.kind list.bytes.now list.ends.now list.values.now }
+    requires named { kind_named kind ≡ kind_of list.kind }
+    ensures grown { GrownOk list.entry.kind list.entry.bytes.now list.entry.ends.now (smaller (length trie.old) (length notes.old))
         trie.new owns.new notes.new result }
+    ensures letters { Bytes list.entry.bytes.now }
 {
-    let slots = count(least(trie.len(), notes.len()));
-    let Grew::On { states, accepted } = trie::add_all(drops(kind), bytes, ends, trie, owns, slots)
-    else {
-        return Grew::Full;
-    };
+    let slots = count(trie.len().min(notes.len()));
+    let grown = trie::add_all(drops(kind), list.bytes, list.ends, trie, owns, slots)?;
     links::link_all(trie, notes, leftmost(kind));
-    Grew::On {
-        states: states,
-        accepted: accepted,
-    }
+    Ok(grown)
 }

@@ -9,7 +9,8 @@ use lib.ListN.{length, get_or}
 use Rattle.paper.specs.Lists.{same, Sorted}
 use Rattle.paper.specs.Patterns.{Entry}
 use Rattle.paper.specs.Automaton.{is_state}
-use Rattle.paper.proofs.Tests.{test, not_true→false}
+use Rattle.std.proofs.lemmas.Bool.{false_from_ne_true}
+use Rattle.paper.proofs.Tests.{test}
 use Rattle.paper.proofs.Strings.{same_eq}
 use Rattle.list.specs.Limits.{alphabet, most_bytes}
 use Rattle.plan.specs.Names.{names, Distinct}
@@ -39,7 +40,7 @@ module _ (es : List Entry) (W : Within alphabet most_bytes es) where
   listing = breadth_listing alphabet most_bytes (is_state es) bounded
 
   dead_no_state : is_state es (alphabet ∷ []) ≡ false
-  dead_no_state = not_true→false (is_state es (alphabet ∷ [])) (λ e. omega (arith, bounded.byte [] alphabet e))
+  dead_no_state = false_from_ne_true (is_state es (alphabet ∷ [])) (λ e. omega (arith, bounded.byte [] alphabet e))
 
   -- a name is dead's or a state
   name_cases : (k : ℕ) → k < length (names alphabet es)

@@ -12,7 +12,7 @@ ghost use Rattle.outputs.specs.Placed.{Tabled, TabledSome, Placed};
 
 use trie::TrieId;
 
-// The field of a state's notes, and those of an own output.
+// The field of a state's notes, and those of an own output, each with a name of its own, as those of the trie's rows.
 const PLACE: usize = 2;
 
 const ROW: usize = 0;
@@ -24,17 +24,14 @@ pub fn place_of(notes: &[[u32; 6]], s: TrieId) -> u32
     requires { s.0 < length notes.now }
     ensures { result ≡ field notes.now s.0 2 }
 {
-    let k = s.0 as usize;
-    notes[k][PLACE]
+    notes[s.0 as usize][PLACE]
 }
 
 fn set_place(notes: &mut [[u32; 6]], s: TrieId, place: u32)
     requires { s.0 < length notes.old }
     ensures { notes.new ≡ with_place notes.old s.0 place }
 {
-    let k = s.0 as usize;
-    let old = notes[k];
-    notes[k] = [old[0], old[1], place, old[3], old[4], old[5]];
+    notes[s.0 as usize][PLACE] = place;
 }
 
 // The row of an own output's pattern.
@@ -42,8 +39,7 @@ fn own_row(owns: &[[u32; 2]], k: u32) -> u32
     requires { k < length owns.now }
     ensures { result ≡ field owns.now k 0 }
 {
-    let i = k as usize;
-    owns[i][ROW]
+    owns[k as usize][ROW]
 }
 
 // The own output of the same state before it, counted from 1; 0 where there is none.
@@ -51,24 +47,14 @@ fn own_before(owns: &[[u32; 2]], k: u32) -> u32
     requires { k < length owns.now }
     ensures { result ≡ field owns.now k 1 }
 {
-    let i = k as usize;
-    owns[i][BEFORE]
-}
-
-fn value_at(values: &[u32], row: u32) -> u32
-    requires { row < length values.now }
-    ensures { result ≡ get_or values.now row 0 }
-{
-    let i = row as usize;
-    values[i]
+    owns[k as usize][BEFORE]
 }
 
 fn set_output(outs: &mut [[u32; 3]], n: u32, value: u32, size: u32, next: u32)
     requires { n < length outs.old }
     ensures { outs.new ≡ set outs.old n (value ∷ size ∷ next ∷ []) }
 {
-    let i = n as usize;
-    outs[i] = [value, size, next];
+    outs[n as usize] = [value, size, next];
 }
 
 // How many outputs are stored, and where the chain that was stored last begins.
@@ -78,7 +64,8 @@ struct Latest {
     place: u32,
 }
 
-// The own outputs of one state, the last of them first, on the chain that begins at `head`.
+// The own outputs of one state, the last of them first, on the chain that begins at `head`. Each names the one before it: no index is
+// counted.
 fn store_own(
     owns: &[[u32; 2]],
     values: &[u32],
@@ -96,16 +83,13 @@ fn store_own(
     let mut place = head;
     let mut k = first;
     while k != 0 {
-        let row = own_row(owns, k - 1);
-        set_output(outs, n, value_at(values, row), size, place);
+        let value = values[own_row(owns, k - 1) as usize];
+        set_output(outs, n, value, size, place);
         n += 1;
         place = n;
         k = own_before(owns, k - 1);
     }
-    Latest {
-        stored: n,
-        place: place,
-    }
+    Latest { stored: n, place }
 }
 
 // One state: its own outputs on the chain of the state that it links to, and its place. The state that it links to has its own by then.
@@ -158,11 +142,9 @@ pub fn store_outputs(
     set_place(notes, TrieId(0), 0);
     set_place(notes, TrieId(1), 0);
     let mut stored: u32 = 0;
-    let mut i: u32 = 0;
-    while i + 1 < states {
-        let s = links::state_at(notes, i as usize);
+    for i in 0..(states - 1) as usize {
+        let s = links::state_at(notes, i);
         stored = store_state(trie, owns, notes, values, outs, s, stored);
-        i += 1;
     }
     stored
 }

@@ -13,8 +13,8 @@ use Rattle.paper.specs.Lists.{prefix, Sorted}
 use Rattle.paper.specs.Patterns.{Entry, Choice, longest, first, Kind, standard, leftmost, rows_from, rows, proper_prefix, barred, keep}
 use Rattle.paper.specs.Patterns.{accepted, Filled, Proper}
 use Rattle.paper.specs.Matches.{occurs, Occurrence, occurrence_at, by_length, by_row, apart, leftmost_by, Stands, ByLength, ByRow}
-use Rattle.paper.proofs.Tests.{test, clash, not_true→false, and_left, and_right, and_both, or_cases, or_not_left, or_not_right}
-use Rattle.paper.proofs.Tests.{ltb_lt, lt_ltb}
+use Rattle.std.proofs.lemmas.Bool.{false_from_ne_true, and_from, or_cases, ltb-true, lt-ltb, and_parts, or_parts}
+use Rattle.paper.proofs.Tests.{test, clash}
 use Rattle.paper.proofs.Strings.{prefix_trans}
 use Rattle.paper.proofs.Order.{sorted_cases, sorted_unique, sorted_weaken, by_row_asymmetric, by_row_transitive}
 use Rattle.paper.proofs.Occurrences.{found_stands, stands_relisted, stands_end, stands_row, occurs_prefix, occurs_nested}
@@ -45,11 +45,11 @@ rows_rising i (p ∷ ps) = (λ y m. (rows_from_lem (suc i) ps y m).0, rows_risin
 
 pub proper_prefix_trans : (p q r : List ℕ) → proper_prefix p q ≡ true → proper_prefix q r ≡ true → proper_prefix p r ≡ true
 proper_prefix_trans p q r h k =
-    let a : length p < length q = ltb_lt (length p) (length q) (and_right (prefix p q) (ltb (length p) (length q)) h) in
-    let b : length q < length r = ltb_lt (length q) (length r) (and_right (prefix q r) (ltb (length q) (length r)) k) in
-    and_both (prefix p r) (ltb (length p) (length r))
-    (prefix_trans p q r (and_left (prefix p q) (ltb (length p) (length q)) h) (and_left (prefix q r) (ltb (length q) (length r)) k))
-    (lt_ltb (length p) (length r) (omega arith))
+    let a : length p < length q = ltb-true (length p) (length q) (and_parts (prefix p q) (ltb (length p) (length q)) h).1 in
+    let b : length q < length r = ltb-true (length q) (length r) (and_parts (prefix q r) (ltb (length q) (length r)) k).1 in
+    and_from (prefix p r) (ltb (length p) (length r))
+    (prefix_trans p q r (and_parts (prefix p q) (ltb (length p) (length q)) h).0 (and_parts (prefix q r) (ltb (length q) (length r)) k).0)
+    (lt-ltb (length p) (length r) (omega arith))
 
 -- what bars q
 barred_by : (l : List Entry) (q : List ℕ) → barred l q ≡ true → (y : Entry) × Memᴰ y l × (proper_prefix y.word q ≡ true)
@@ -75,7 +75,7 @@ kept_unbarred taken [] x m = absurd (Memᴰ.not-nil m)
 kept_unbarred taken (z ∷ l) x m =
     test (barred taken z.word) (λ h. kept_unbarred taken l x (rw h at m))
     (λ h. ⊎_elim (λ e. rw e h)
-    (λ k. or_not_right (proper_prefix z.word x.word) (barred taken x.word) (kept_unbarred (z ∷ taken) l x k))
+    (λ k. (or_parts (proper_prefix z.word x.word) (barred taken x.word) (kept_unbarred (z ∷ taken) l x k)).1)
     (Memᴰ.cases_cons (rw h at m)))
 
 -- x is listed before y and is no proper prefix of it
@@ -90,7 +90,7 @@ kept_clears taken (z ∷ l) s =
     (λ h. rw h (
       λ x k. (
         s.0 x (kept_listed (z ∷ taken) l x k),
-        or_not_left (proper_prefix z.word x.word) (barred taken x.word) (kept_unbarred (z ∷ taken) l x k),
+        (or_parts (proper_prefix z.word x.word) (barred taken x.word) (kept_unbarred (z ∷ taken) l x k)).0,
       ),
       kept_clears (z ∷ taken) l s.1,
     ))
@@ -188,7 +188,7 @@ acceptance ps x = (
         → proper_prefix y.word x.word ≡ false
     unbegun m y n l =
         ⊎_elim (λ k. accepted_unbegun ps x y m k l)
-        (λ r. not_true→false (proper_prefix y.word x.word)
+        (λ r. false_from_ne_true (proper_prefix y.word x.word)
         (λ h. clash (proper_prefix_trans r.0.word y.word x.word r.3 h)
         (accepted_unbegun ps x r.0 m r.1 (omega (arith, r.2)))))
         (accepted_or_begun ps y n)
@@ -206,7 +206,7 @@ covered ps t g st = ⊎_elim (λ k. (g, stands_relisted st k, refl, inl refl)) b
     begun : (y : Entry) × Memᴰ y (accepted (leftmost first) ps) × (y.row < st.entry.row) × (proper_prefix y.word word ≡ true)
         → (h : Occurrence) × Stands (accepted (leftmost first) ps) t h × (h.start ≡ g.start) × ((g ≡ h) ⊎ ByRow h g)
     begun r =
-        let begins = and_left (prefix r.0.word word) (ltb (length r.0.word) (length word)) r.3 in (
+        let begins = (and_parts (prefix r.0.word word) (ltb (length r.0.word) (length word)) r.3).0 in (
           occurrence_at g.start r.0,
           found_stands (accepted (leftmost first) ps) t g.start r.0 r.1
               (occurs_prefix r.0.word word t g.start begins st.occurring),
@@ -242,8 +242,8 @@ longer_earlier ps t s x y m n h k l =
   where
     begun : proper_prefix y.word x.word ≡ true
     begun =
-        and_both (prefix y.word x.word) (ltb (length y.word) (length x.word))
-        (occurs_nested y.word x.word t s k h (omega arith)) (lt_ltb (length y.word) (length x.word) l)
+        and_from (prefix y.word x.word) (ltb (length y.word) (length x.word))
+        (occurs_nested y.word x.word t s k h (omega arith)) (lt-ltb (length y.word) (length x.word) l)
 
 -- so ByLength and ByRow agree on what stands
 by_length_by_row : (ps : List (List ℕ)) (t : List ℕ) (f g : Occurrence) → Stands (accepted (leftmost first) ps) t f

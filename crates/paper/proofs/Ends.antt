@@ -12,7 +12,8 @@ use Rattle.paper.specs.Lists.{same, prefix, those, each}
 use Rattle.paper.specs.Patterns.{Entry, standard}
 use Rattle.paper.specs.Matches.{occurs, Occurrence, occurrence_at, between, ending_at}
 use Rattle.paper.specs.Automaton.{machine, own_of, end_at}
-use Rattle.paper.proofs.Tests.{test, true_both, and_left, and_right, and_both, eqb_eq, eq_eqb}
+use Rattle.std.proofs.lemmas.Bool.{and_from, eqb-true, eq-eqb, and_parts}
+use Rattle.paper.proofs.Tests.{test, true_both}
 use Rattle.paper.proofs.Strings.{same_eq, eq_same, prefix_append, prefix_rest}
 use Rattle.paper.proofs.Machines.{never_starts}
 use Rattle.paper.proofs.Outputs.{endings}
@@ -42,9 +43,9 @@ pub suffix_test : (p t : List ℕ) (s n : ℕ) → n ≤ length t → s ≤ n
 suffix_test p t s n h k =
     true_both (same p (drop s (take n t))) (occurs p t s && eqb (s + length p) n)
     (λ e. let o = suffix→occurs p t s n h k (same_eq p (drop s (take n t)) e) in
-    and_both (occurs p t s) (eqb (s + length p) n) o.0 (eq_eqb (s + length p) n o.1))
+    and_from (occurs p t s) (eqb (s + length p) n) o.0 (eq-eqb (s + length p) n o.1))
     (λ e. eq_same p (drop s (take n t))
-    (occurs→suffix p t s n h (eqb_eq (s + length p) n (and_right (occurs p t s) (eqb (s + length p) n) e)) (and_left (occurs p t s) (eqb (s + length p) n) e)))
+    (occurs→suffix p t s n h (eqb-true (s + length p) n (and_parts (occurs p t s) (eqb (s + length p) n) e).1) (and_parts (occurs p t s) (eqb (s + length p) n) e).0))
 
 -- ---- those that pass, mapped
 

@@ -16,7 +16,8 @@ use Rattle.paper.specs.Lists.{pick, same, prefix, snoc, is_nil, Sorted}
 use Rattle.paper.specs.Patterns.{Entry, Choice, leftmost, Proper}
 use Rattle.paper.specs.Matches.{occurs, Occurrence, occurrence_at, ByLength}
 use Rattle.paper.specs.Automaton.{Machine, machine, is_state, own_of, longest_state, before, chain, output, end_at, Walk, step, keeping, is_some, Given, giving, says_next}
-use Rattle.paper.proofs.Tests.{test, clash, or_left, or_right}
+use Rattle.std.proofs.lemmas.Bool.{or_left, or_right}
+use Rattle.paper.proofs.Tests.{test, clash}
 use Rattle.paper.proofs.Strings.{same_eq, same_refl, prefix_refl, prefix_append, prefix_length, prefix_of, prefix_same, prefix_trans, snoc_append, length_snoc}
 use Rattle.paper.proofs.Order.{in_those, to_those, sorted_those}
 use Rattle.paper.proofs.Longest.{longest_step}

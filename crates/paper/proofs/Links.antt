@@ -9,7 +9,8 @@ use native.Mathlib.Omega.{arith}
 use lib.ListN.{length}
 use Rattle.paper.specs.Lists.{pick, snoc}
 use Rattle.paper.specs.Automaton.{Machine, longest_state, failure, Link, dead, to, begins, starts, before, is_dead, link, Hunt, along, at_root, hunt, Rules}
-use Rattle.paper.proofs.Tests.{test, clash, or_right, or_left}
+use Rattle.std.proofs.lemmas.Bool.{or_right, or_left}
+use Rattle.paper.proofs.Tests.{test, clash}
 use Rattle.paper.proofs.Strings.{snoc_append, length_snoc}
 use Rattle.paper.proofs.Longest.{States, longest_length, longest_step, longest_is_state, not_longer}
 

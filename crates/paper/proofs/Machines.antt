@@ -9,7 +9,8 @@ use lib.ListN.{length}
 use Rattle.paper.specs.Lists.{same, prefix, snoc, those}
 use Rattle.paper.specs.Patterns.{Entry, Kind, standard, leftmost, Proper}
 use Rattle.paper.specs.Automaton.{machine, is_state, own_of, stops_of, begins, starts, before}
-use Rattle.paper.proofs.Tests.{test, clash, or_left, or_right, or_cases, or_not_left, or_not_right}
+use Rattle.std.proofs.lemmas.Bool.{or_left, or_right, or_cases, or_parts}
+use Rattle.paper.proofs.Tests.{test, clash}
 use Rattle.paper.proofs.Strings.{same_eq, prefix_refl, prefix_trans, prefix_snoc}
 use Rattle.paper.proofs.Longest.{States}
 use Rattle.paper.proofs.Links.{Lawful}
@@ -36,8 +37,8 @@ own_at_states [] s h = refl
 own_at_states (x ∷ xs) s h =
     test (same x.word s)
     (λ e. let k : prefix s x.word ≡ true = rw (same_eq x.word s e) (prefix_refl s) in
-    clash k (or_not_left (prefix s x.word) (is_state xs s) h))
-    (λ e. rw e (own_at_states xs s (or_not_right (prefix s x.word) (is_state xs s) h)))
+    clash k (or_parts (prefix s x.word) (is_state xs s) h).0)
+    (λ e. rw e (own_at_states xs s (or_parts (prefix s x.word) (is_state xs s) h).1))
 
 -- nor by root, as no pattern is empty
 pub own_not_root : (es : List Entry) → ((x : Entry) → Memᴰ x es → 0 < length x.word) → own_of es [] ≡ []

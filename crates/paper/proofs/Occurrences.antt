@@ -14,7 +14,8 @@ use Rattle.paper.specs.Patterns.{Entry, Choice, longest, first, Proper}
 use Rattle.paper.specs.Matches.{occurs, Occurrence, occurrence_at, starting_at, between, ending_at, by_end, by_length, by_row, apart}
 use Rattle.paper.specs.Matches.{overlapping, plain, leftmost_by, Stands, ByEnd, ByLength, ByRow, Leftmost}
 use Rattle.paper.specs.Matches.{Overlapping, Best, Chosen}
-use Rattle.paper.proofs.Tests.{test, and_left, and_right, and_both, eqb_eq, eq_eqb, leb_le, leb_lt}
+use Rattle.std.proofs.lemmas.Bool.{and_from, eqb-true, eq-eqb, leb-true, leb-false, and_parts}
+use Rattle.paper.proofs.Tests.{test}
 use Rattle.paper.proofs.Strings.{prefix_trans, prefix_length, prefix_of}
 use Rattle.paper.proofs.Order.{Asymmetric, Transitive, not_head, in_those, to_those, in_each, to_each, sorted_those, sorted_each}
 use Rattle.paper.proofs.Order.{sorted_cases, sorted_unique, sorted_weaken, sorted_map, by_end_asymmetric}
@@ -98,13 +99,13 @@ pub between_exact : (es : List Entry) (t : List ℕ) (s e : ℕ) (f : Occurrence
     → Memᴰ f (between es t s e) ↔ (Stands es t f × (f.start ≡ s) × (f.end ≡ e))
 unfolding between
 between_exact es t s e f = (
-  λ m. let r = in_found es t s passes (λ x h. and_left (occurs x.word t s) (ends x) h) f m in
+  λ m. let r = in_found es t s passes (λ x h. (and_parts (occurs x.word t s) (ends x) h).0) f m in
       let k : s + length r.0.entry.word ≡ e
-      = eqb_eq (s + length r.0.entry.word) e (and_right (occurs r.0.entry.word t s) (ends r.0.entry) r.2) in
+      = eqb-true (s + length r.0.entry.word) e (and_parts (occurs r.0.entry.word t s) (ends r.0.entry) r.2).1 in
       (r.0, r.1, omega (arith, r.1, stands_end r.0)),
   λ h. to_found es t s passes f h.0 h.1
-      (and_both (occurs h.0.entry.word t s) (ends h.0.entry) (rw h.1 at h.0.occurring)
-      (eq_eqb (s + length h.0.entry.word) e (omega (arith, h.1, h.2, stands_end h.0)))),
+      (and_from (occurs h.0.entry.word t s) (ends h.0.entry) (rw h.1 at h.0.occurring)
+      (eq-eqb (s + length h.0.entry.word) e (omega (arith, h.1, h.2, stands_end h.0)))),
 )
   where
     ends : Entry → Bool
@@ -258,18 +259,18 @@ module _ (Better : Occurrence → Occurrence → Type 0) (t : List ℕ) where
       (λ h. rw h (
         record {
           stands = stands f (Memᴰ.head refl);
-          from = leb_le p f.start h;
+          from = leb-true p f.start h;
           best = λ g st le. ⊎_elim inl (λ k. inr (sorted.0 g k)) (Memᴰ.cases_cons (all g st le));
         },
         apart_chosen es f.end l proper (λ g k. stands g (Memᴰ.tail k))
             (λ g st le.
             let filled : f.start < f.end = (stands_bounds proper (stands f (Memᴰ.head refl))).0 in
-            not_head (λ e. omega (arith, ap (λ (x : Occurrence). x.start) e)) (all g st (omega (arith, leb_le p f.start h))))
+            not_head (λ e. omega (arith, ap (λ (x : Occurrence). x.start) e)) (all g st (omega (arith, leb-true p f.start h))))
             sorted.1,
       ))
       (λ h. rw h
       (apart_chosen es p l proper (λ g k. stands g (Memᴰ.tail k))
-      (λ g st le. not_head (λ e. omega (arith, leb_lt p f.start h, ap (λ (x : Occurrence). x.start) e)) (all g st le))
+      (λ g st le. not_head (λ e. omega (arith, leb-false p f.start h, ap (λ (x : Occurrence). x.start) e)) (all g st le))
       sorted.1))
 
   -- the same from 0, where the list has exactly what stands

@@ -10,7 +10,8 @@ use lib.ListN.{length}
 use Rattle.paper.specs.Lists.{pick}
 use Rattle.paper.specs.Patterns.{Entry}
 use Rattle.paper.specs.Automaton.{Machine, longest_state, failure, starts, before, is_dead, link, chain, output}
-use Rattle.paper.proofs.Tests.{test, clash, or_not_left, or_not_right}
+use Rattle.std.proofs.lemmas.Bool.{or_parts}
+use Rattle.paper.proofs.Tests.{test, clash}
 use Rattle.paper.proofs.Longest.{longest_length}
 use Rattle.paper.proofs.Links.{Lawful}
 
@@ -39,8 +40,8 @@ module _ (M : Machine) (L : Lawful M) where
   endings_longest (x ∷ xs) h =
       test (S (x ∷ xs)) (λ e. rw e)
       (λ e. let k : (starts M.stops (x ∷ xs) || before S M.stops xs) ≡ false = rw e at h in
-      rw (e, L.own_at_states (x ∷ xs) e, or_not_left (starts M.stops (x ∷ xs)) (before S M.stops xs) k)
-      (endings_longest xs (or_not_right (starts M.stops (x ∷ xs)) (before S M.stops xs) k)))
+      rw (e, L.own_at_states (x ∷ xs) e, (or_parts (starts M.stops (x ∷ xs)) (before S M.stops xs) k).0)
+      (endings_longest xs (or_parts (starts M.stops (x ∷ xs)) (before S M.stops xs) k).1))
 
   pub chain_is : (n : ℕ) (s : List ℕ) → length s ≤ n → chain M n s ≡ endings M s
   unfolding chain endings link is_dead failure

@@ -13,7 +13,7 @@ use Rattle.paper.specs.Lists.{snoc, those, each}
 use Rattle.paper.specs.Patterns.{Entry, standard}
 use Rattle.paper.specs.Matches.{occurs, Occurrence, occurrence_at, between, ending_at, by_end, apart, plain}
 use Rattle.paper.specs.Automaton.{machine, is_state, longest_state, output, end_at, Walk, fresh, step, on_first, says_plain}
-use Rattle.paper.proofs.Tests.{le_leb, lt_leb}
+use Rattle.std.proofs.lemmas.Bool.{le-leb, lt-leb}
 use Rattle.paper.proofs.Strings.{snoc_append, length_snoc}
 use Rattle.paper.proofs.Outputs.{endings}
 use Rattle.paper.proofs.Ends.{each_split, endings_each}
@@ -24,7 +24,7 @@ pub apart_skip : (p : ℕ) (l r : List Occurrence) → ((f : Occurrence) → Mem
 unfolding apart
 apart_skip p [] r h = refl
 apart_skip p (f ∷ l) r h =
-    rw (lt_leb p f.start (h f (Memᴰ.head refl))) (apart_skip p l r (λ g m. h g (Memᴰ.tail m)))
+    rw (lt-leb p f.start (h f (Memᴰ.head refl))) (apart_skip p l r (λ g m. h g (Memᴰ.tail m)))
 
 between_start : (es : List Entry) (t : List ℕ) (s e : ℕ) (f : Occurrence) → Memᴰ f (between es t s e) → f.start ≡ s
 unfolding between
@@ -94,7 +94,7 @@ module _ (es : List Entry) where
     first_taken x xs rest e =
         let all : (f : Occurrence) → Memᴰ f (end_at n x ∷ map (end_at n) xs) → (p ≤ f.start) × (f.start < n)
         = λ f m. late_starts f (rw e m) in
-        rw (le_leb p (end_at n x).start (all (end_at n x) (Memᴰ.head refl)).0)
+        rw (le-leb p (end_at n x).start (all (end_at n x) (Memᴰ.head refl)).0)
         (ap (λ (l : List Occurrence). end_at n x ∷ l) (apart_skip n (map (end_at n) xs) rest (λ f m. (all f (Memᴰ.tail m)).1)))
 
     abbrev rest : List Occurrence

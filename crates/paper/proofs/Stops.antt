@@ -12,7 +12,8 @@ use Rattle.paper.specs.Lists.{pick, prefix, snoc, is_nil}
 use Rattle.paper.specs.Patterns.{Entry}
 use Rattle.paper.specs.Matches.{occurs}
 use Rattle.paper.specs.Automaton.{Machine, longest_state, begins, starts, before}
-use Rattle.paper.proofs.Tests.{test, clash, or_left, or_right, or_cases}
+use Rattle.std.proofs.lemmas.Bool.{or_left, or_right, or_cases}
+use Rattle.paper.proofs.Tests.{test, clash}
 use Rattle.paper.proofs.Strings.{prefix_refl, prefix_trans, prefix_snoc, prefix_cases, prefix_same, by_snoc}
 use Rattle.paper.proofs.Longest.{longest_length}
 use Rattle.paper.proofs.Links.{starts_snoc}

@@ -10,7 +10,7 @@ use native.Mathlib.Omega.{arith}
 use lib.Dec.{eqb}
 use lib.ListN.{length, length-append}
 use Rattle.paper.specs.Lists.{same, prefix, snoc}
-use Rattle.paper.proofs.Tests.{eqb_eq, eq_eqb, and_left, and_right, and_both}
+use Rattle.std.proofs.lemmas.Bool.{eqb-true, eq-eqb, and_from, and_parts}
 
 abbrev cons : ℕ → List ℕ → List ℕ
 cons x xs = x ∷ xs
@@ -23,12 +23,12 @@ same_eq [] [] e = refl
 same_eq [] (y ∷ ys) e = absurd (false≢true e)
 same_eq (x ∷ xs) [] e = absurd (false≢true e)
 same_eq (x ∷ xs) (y ∷ ys) e =
-    ap₂ cons (eqb_eq x y (and_left (eqb x y) (same xs ys) e)) (same_eq xs ys (and_right (eqb x y) (same xs ys) e))
+    ap₂ cons (eqb-true x y (and_parts (eqb x y) (same xs ys) e).0) (same_eq xs ys (and_parts (eqb x y) (same xs ys) e).1)
 
 pub same_refl : (xs : List ℕ) → same xs xs ≡ true
 unfolding same
 same_refl [] = refl
-same_refl (x ∷ xs) = and_both (eqb x x) (same xs xs) (eq_eqb x x refl) (same_refl xs)
+same_refl (x ∷ xs) = and_from (eqb x x) (same xs xs) (eq-eqb x x refl) (same_refl xs)
 
 pub eq_same : (xs ys : List ℕ) → xs ≡ ys → same xs ys ≡ true
 eq_same xs ys e = rw e (same_refl ys)
@@ -39,7 +39,7 @@ eq_same xs ys e = rw e (same_refl ys)
 pub prefix_append : (p r : List ℕ) → prefix p (p ++ r) ≡ true
 unfolding prefix
 prefix_append [] r = refl
-prefix_append (x ∷ xs) r = and_both (eqb x x) (prefix xs (xs ++ r)) (eq_eqb x x refl) (prefix_append xs r)
+prefix_append (x ∷ xs) r = and_from (eqb x x) (prefix xs (xs ++ r)) (eq-eqb x x refl) (prefix_append xs r)
 
 pub prefix_refl : (p : List ℕ) → prefix p p ≡ true
 prefix_refl p = rw append-nil at (prefix_append p [])
@@ -49,8 +49,8 @@ unfolding prefix
 prefix_rest [] t h = (t, refl)
 prefix_rest (x ∷ xs) [] h = absurd (false≢true h)
 prefix_rest (x ∷ xs) (y ∷ ys) h =
-    let rest : (r : List ℕ) × (ys ≡ xs ++ r) = prefix_rest xs ys (and_right (eqb x y) (prefix xs ys) h) in
-    (rest.0, ap₂ cons (sym (eqb_eq x y (and_left (eqb x y) (prefix xs ys) h))) rest.1)
+    let rest : (r : List ℕ) × (ys ≡ xs ++ r) = prefix_rest xs ys (and_parts (eqb x y) (prefix xs ys) h).1 in
+    (rest.0, ap₂ cons (sym (eqb-true x y (and_parts (eqb x y) (prefix xs ys) h).0)) rest.1)
 
 pub prefix_trans : (p q t : List ℕ) → prefix p q ≡ true → prefix q t ≡ true → prefix p t ≡ true
 prefix_trans p q t h k =
@@ -69,10 +69,10 @@ prefix_of [] b w h k l = refl
 prefix_of (x ∷ a) [] w h k l = absurd (not-suc-le-zero l)
 prefix_of (x ∷ a) (y ∷ b) [] h k l = absurd (false≢true h)
 prefix_of (x ∷ a) (y ∷ b) (z ∷ w) h k l =
-    let p : x ≡ z = eqb_eq x z (and_left (eqb x z) (prefix a w) h) in
-    let q : y ≡ z = eqb_eq y z (and_left (eqb y z) (prefix b w) k) in
-    and_both (eqb x y) (prefix a b) (eq_eqb x y (p ∙ sym q))
-    (prefix_of a b w (and_right (eqb x z) (prefix a w) h) (and_right (eqb y z) (prefix b w) k) (omega arith))
+    let p : x ≡ z = eqb-true x z (and_parts (eqb x z) (prefix a w) h).0 in
+    let q : y ≡ z = eqb-true y z (and_parts (eqb y z) (prefix b w) k).0 in
+    and_from (eqb x y) (prefix a b) (eq-eqb x y (p ∙ sym q))
+    (prefix_of a b w (and_parts (eqb x z) (prefix a w) h).1 (and_parts (eqb y z) (prefix b w) k).1 (omega arith))
 
 -- a prefix that is no shorter is the whole
 pub prefix_same : (a b : List ℕ) → prefix a b ≡ true → length b ≤ length a → a ≡ b
@@ -81,7 +81,7 @@ prefix_same [] [] h l = refl
 prefix_same [] (y ∷ b) h l = absurd (not-suc-le-zero l)
 prefix_same (x ∷ a) [] h l = absurd (false≢true h)
 prefix_same (x ∷ a) (y ∷ b) h l =
-    ap₂ cons (eqb_eq x y (and_left (eqb x y) (prefix a b) h)) (prefix_same a b (and_right (eqb x y) (prefix a b) h) (omega arith))
+    ap₂ cons (eqb-true x y (and_parts (eqb x y) (prefix a b) h).0) (prefix_same a b (and_parts (eqb x y) (prefix a b) h).1 (omega arith))
 
 -- ---- one byte more
 

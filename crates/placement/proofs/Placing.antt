@@ -20,8 +20,7 @@ use Rattle.plan.proofs.Layouts.{grown_good}
 use Rattle.plan.proofs.Placement.{place_here, place_more, place_full, look_grown, window_reaches}
 use Rattle.trie.specs.Stands.{Stands}
 use Rattle.spots.specs.Charted.{Charted, Seek, GroupAt, FoundBase}
-use Rattle.spots.specs.declared.Base.{Base}
-use Rattle.spots.specs.declared.Base.TheVariants.{At, Nothing}
+use Rattle.std.specs.Prelude.{Option, Some, None}
 use Rattle.spots.proofs.Charting.{bytes, charted_grown, charted_put, vacant_past}
 use Rattle.placement.specs.Laid.{first_block}
 use Rattle.placement.specs.Seats.{Seat, Children, SeatedAt, Look, PlacedAt, Looked, Turn, Turned}
@@ -67,7 +66,7 @@ module _ {es : List Entry} {l : Layout} {trie notes spots : List (List ℕ)} {s 
         let F = first_some (serves l g) (first_block blocks * block) (blocks * block - first_block blocks * block) i e in
         xor_below alphabet bytes i g.low blocks (kid_letters L.state.stands s g G g.low (Memᴰ.head refl)) (omega (arith, F.from, F.within))
 
-    pub seat_here : (chart : List (List ℕ)) → length chart ≡ length spots → (b : ℕ) → FoundBase l g (first_block blocks * block) (blocks * block) (At b)
+    pub seat_here : (chart : List (List ℕ)) → length chart ≡ length spots → (b : ℕ) → FoundBase l g (first_block blocks * block) (blocks * block) (Some b)
         → Seat es trie notes chart s b
     seat_here chart same b F =
         let h : b < blocks * block = rw F.2 (found_below F.0 F.1) in
@@ -77,7 +76,7 @@ module _ {es : List Entry} {l : Layout} {trie notes spots : List (List ℕ)} {s 
           cell_room = λ c small. let x = xor_below alphabet bytes b c blocks small h in omega (arith, L.room);
         }
 
-    pub looked_some : {after chart final : List (List ℕ)} → length chart ≡ length spots → (b : ℕ) → FoundBase l g (first_block blocks * block) (blocks * block) (At b)
+    pub looked_some : {after chart final : List (List ℕ)} → length chart ≡ length spots → (b : ℕ) → FoundBase l g (first_block blocks * block) (blocks * block) (Some b)
         → Charted chart l → SeatedAt es s b notes after chart final → Looked es l g s notes after final true
     looked_some {after} {chart} {final} same b F C S =
         let R = seat_here chart same b F in (
@@ -92,7 +91,7 @@ module _ {es : List Entry} {l : Layout} {trie notes spots : List (List ℕ)} {s 
           },
         )
 
-    pub looked_none : {chart : List (List ℕ)} → FoundBase l g (first_block blocks * block) (blocks * block) Nothing → Charted chart l
+    pub looked_none : {chart : List (List ℕ)} → FoundBase l g (first_block blocks * block) (blocks * block) None → Charted chart l
         → Looked es l g s notes notes chart false
     looked_none F C = (look_range l g blocks L.blocks_are ∙ F, C, refl)
 
@@ -102,15 +101,15 @@ module _ {es : List Entry} {l : Layout} {trie notes spots : List (List ℕ)} {s 
   pub sought_from : Seek es l trie spots s from (blocks * block)
   sought_from = subst (λ (x : ℕ). Seek es l trie spots s x (blocks * block)) (sym e) (sought L)
 
-  pub found_from : (g : Group) (r : Base) → FoundBase l g from (blocks * block) r → FoundBase l g (first_block blocks * block) (blocks * block) r
+  pub found_from : (g : Group) (r : Option ℕ) → FoundBase l g from (blocks * block) r → FoundBase l g (first_block blocks * block) (blocks * block) r
   found_from g r F = subst (λ (x : ℕ). FoundBase l g x (blocks * block) r) e F
 
 -- an answer told apart
-pub as_at : (l : Layout) (g : Group) (from end : ℕ) (r : Base) (b : ℕ) → FoundBase l g from end r → r ≡ At b → FoundBase l g from end (At b)
-as_at l g from end r b F e = subst (λ (x : Base). FoundBase l g from end x) e F
+pub as_some : (l : Layout) (g : Group) (from end : ℕ) (r : Option ℕ) (b : ℕ) → FoundBase l g from end r → r ≡ Some b → FoundBase l g from end (Some b)
+as_some l g from end r b F e = subst (λ (x : Option ℕ). FoundBase l g from end x) e F
 
-pub as_nothing : (l : Layout) (g : Group) (from end : ℕ) (r : Base) → FoundBase l g from end r → r ≡ Nothing → FoundBase l g from end Nothing
-as_nothing l g from end r F e = subst (λ (x : Base). FoundBase l g from end x) e F
+pub as_none : (l : Layout) (g : Group) (from end : ℕ) (r : Option ℕ) → FoundBase l g from end r → r ≡ None → FoundBase l g from end None
+as_none l g from end r F e = subst (λ (x : Option ℕ). FoundBase l g from end x) e F
 
 module _ (es : List Entry) (l : Layout) (g : Group) (s : ℕ) (notes₀ notes spots : List (List ℕ)) (r : Bool) (F : Looked es l g s notes₀ notes spots r) where
   pub as_found : r ≡ true → Looked es l g s notes₀ notes spots true

@@ -28,9 +28,7 @@ use Rattle.groups.specs.Ordered.{no_group}
 use Rattle.spots.specs.Charted.{with_taken, GroupAt}
 use Rattle.spots.proofs.Charting.{bytes, charted_begun}
 use Rattle.placement.specs.Laid.{with_cell, first_block, laid_out, Laid, Placeable, LaidOut}
-use Rattle.placement.specs.Seats.{Turn, Turned, TurnedOk}
-use Rattle.placement.specs.declared.Blocks.{Blocks}
-use Rattle.placement.specs.declared.Blocks.TheVariants.{Now, Full}
+use Rattle.placement.specs.Seats.{Turn, Turned}
 use Rattle.placement.proofs.Seating.{cell_here, cell_kept, cell_other}
 
 -- what stands before a place is a member
@@ -200,12 +198,3 @@ module _ {es : List Entry} {gs : List Group} {trie notes₀ spots₀ : List (Lis
     where
       begun_one : (laid_out (take 0 gs)).blocks ≡ 1
       begun_one = refl
-
--- an answer told apart
-module _ (es : List Entry) (l : Layout) (g : Group) (s : ℕ) (notes₀ notes spots : List (List ℕ)) (most : ℕ) (r : Blocks)
-    (T : TurnedOk es l g s notes₀ notes spots most r) where
-  pub as_now : (n : ℕ) → r ≡ Now n → Turned es l g s notes₀ notes spots most n
-  as_now n e = subst (λ (x : Blocks). TurnedOk es l g s notes₀ notes spots most x) e T
-
-  pub as_full : r ≡ Full → most < (place block first_block l g).blocks
-  as_full e = subst (λ (x : Blocks). TurnedOk es l g s notes₀ notes spots most x) e T

@@ -1,5 +1,5 @@
 -- A placed layout in the tables: the chart of the cells, and each state's cell.
-use Rattle.std.specs.Prelude.{◌≡◌, ℕ, ◌*◌, ◌≤◌, ◌<◌, length, set, replicate}
+use Rattle.std.specs.Prelude.{◌≡◌, ℕ, ◌*◌, ◌≤◌, ◌<◌, length, set, replicate, Result, Ok, Err}
 use mathlib.Core.List.{List, [], ◌∷◌, Memᴰ}
 use Rattle.std.specs.Int.Bits.{bit_xor}
 use Rattle.zeros.specs.Rows.{zeros, field}
@@ -15,8 +15,7 @@ use Rattle.trie.specs.Trie.{Kid}
 use Rattle.trie.specs.Stands.{Stands}
 use Rattle.groups.specs.Ordered.{Ordered}
 use Rattle.spots.specs.Charted.{Charted}
-use Rattle.placement.specs.declared.Blocks.{Blocks}
-use Rattle.placement.specs.declared.Blocks.TheVariants.{Now, Full}
+use Rattle.placement.specs.declared.FewCells.{FewCells}
 
 -- the rows with one field of row k anew: the cell of state k
 abbrev pub with_cell : List (List ℕ) → ℕ → ℕ → List (List ℕ)
@@ -66,6 +65,6 @@ pub record LaidOut (es : List Entry) (gs : List Group) (notes₀ notes spots : L
   pub kept : (k f : ℕ) → f < 5 → field notes k f ≡ field notes₀ k f
 
 -- the layout stands; or it needs more blocks than may be used
-abbrev pub PlacedAll : List Entry → List Group → List (List ℕ) → List (List ℕ) → List (List ℕ) → ℕ → Blocks → Type 0
-PlacedAll es gs notes₀ notes spots most (Now blocks) = LaidOut es gs notes₀ notes spots most blocks
-PlacedAll es gs notes₀ notes spots most Full = most < (laid_out gs).blocks
+abbrev pub PlacedAll : List Entry → List Group → List (List ℕ) → List (List ℕ) → List (List ℕ) → ℕ → Result ℕ FewCells → Type 0
+PlacedAll es gs notes₀ notes spots most (Ok blocks) = LaidOut es gs notes₀ notes spots most blocks
+PlacedAll es gs notes₀ notes spots most (Err few) = most < (laid_out gs).blocks

@@ -1,5 +1,5 @@
 -- One group: what is asked before it is placed, and what its base and its children's cells are then.
-use Rattle.std.specs.Prelude.{◌≡◌, Bool, true, false, List, [], ℕ, ◌*◌, ◌≤◌, ◌<◌, length, get_or}
+use Rattle.std.specs.Prelude.{◌≡◌, Bool, true, false, List, [], ℕ, ◌*◌, ◌≤◌, ◌<◌, length, get_or, Result, Ok, Err}
 use Rattle.std.proofs.Math.Option.{none, some}
 use Rattle.std.specs.Int.Bits.{bit_xor}
 use Rattle.zeros.specs.Rows.{field}
@@ -14,8 +14,7 @@ use Rattle.trie.specs.Trie.{Kid}
 use Rattle.trie.specs.Stands.{Stands}
 use Rattle.spots.specs.Charted.{with_used, with_seated, Charted, GroupAt}
 use Rattle.placement.specs.Laid.{first_block}
-use Rattle.placement.specs.declared.Blocks.{Blocks}
-use Rattle.placement.specs.declared.Blocks.TheVariants.{Now, Full}
+use Rattle.placement.specs.declared.FewCells.{FewCells}
 
 -- the state s of a trie has a row of notes, and so has each of its children
 pub record State (es : List Entry) (trie notes : List (List ℕ)) (s : ℕ) : Type 0 where
@@ -99,6 +98,6 @@ pub record Turned (es : List Entry) (l : Layout) (g : Group) (s : ℕ) (notes₀
   pub at : PlacedAt es before g s index notes₀ notes spots
 
 -- the group is placed; or that takes more blocks than may be used
-abbrev pub TurnedOk : List Entry → Layout → Group → ℕ → List (List ℕ) → List (List ℕ) → List (List ℕ) → ℕ → Blocks → Type 0
-TurnedOk es l g s notes₀ notes spots most (Now blocks) = Turned es l g s notes₀ notes spots most blocks
-TurnedOk es l g s notes₀ notes spots most Full = most < (place block first_block l g).blocks
+abbrev pub TurnedOk : List Entry → Layout → Group → ℕ → List (List ℕ) → List (List ℕ) → List (List ℕ) → ℕ → Result ℕ FewCells → Type 0
+TurnedOk es l g s notes₀ notes spots most (Ok blocks) = Turned es l g s notes₀ notes spots most blocks
+TurnedOk es l g s notes₀ notes spots most (Err few) = most < (place block first_block l g).blocks

@@ -13,7 +13,8 @@ use lib.Bits.{bit_xor}
 use lib.Dec.{eqb}
 use lib.ListN.{length-map}
 use Rattle.paper.specs.Lists.{pick, each, Sorted}
-use Rattle.paper.proofs.Tests.{test, clash, not_true, not_false, eqb_eq}
+use Rattle.std.proofs.lemmas.Bool.{not-true, not-false, eqb-true}
+use Rattle.paper.proofs.Tests.{test, clash}
 use Rattle.paper.proofs.Order.{in_each, to_each, sorted_each, sorted_weaken, sorted_map}
 use Rattle.plan.specs.Placement.{Placed, Layout, any_of, taken_cell, vacant, used_base, Alphabet, Good}
 use Rattle.plan.specs.Cells.{unused_in, Smallest}
@@ -53,7 +54,7 @@ low_in_lem : (ps : List Placed) (b : ℕ) → any_of (λ p. eqb p.base b) ps ≡
 unfolding any_of low_in
 low_in_lem [] b h = clash refl (sym h)
 low_in_lem (p ∷ ps) b h =
-    test (eqb p.base b) (λ e. (p, Memᴰ.head refl, eqb_eq p.base b e, rw e))
+    test (eqb p.base b) (λ e. (p, Memᴰ.head refl, eqb-true p.base b e, rw e))
     (λ e. let r = low_in_lem ps b (rw e at h) in (r.0, Memᴰ.tail r.1, r.2, rw e r.3))
 
 module _ (a : ℕ) (A : Alphabet a) (l : Layout) (G : Good a l) (k : ℕ) where
@@ -132,8 +133,8 @@ module _ (a : ℕ) (l : Layout) where
       record {
         from = F.from;
         within = F.within;
-        unused = not_true (used_base l u) F.passed;
-        smallest = λ b h m. not_false (used_base l b) (F.first b h m);
+        unused = not-true (used_base l u) F.passed;
+        smallest = λ b h m. not-false (used_base l b) (F.first b h m);
       }
 
   pub to_unused_some : (k u : ℕ) → Smallest a l k u → unused_in a l k ≡ some u
@@ -149,7 +150,7 @@ module _ (a : ℕ) (l : Layout) where
 
   pub unused_none : (k : ℕ) → unused_in a l k ≡ none → (b : ℕ) → k * a ≤ b → b < k * a + a → used_base l b ≡ true
   unfolding unused_in
-  unused_none k e b h m = not_false (used_base l b) (first_none (λ c. not (used_base l c)) (k * a) a e b h m)
+  unused_none k e b h m = not-false (used_base l b) (first_none (λ c. not (used_base l c)) (k * a) a e b h m)
 
   module _ (A : Alphabet a) (G : Good a l) where
     -- (q4) a block with no unused base has no vacant cell
@@ -163,7 +164,7 @@ module _ (a : ℕ) (l : Layout) where
       where
         go : (o : Option ℕ) → unused_in a l (j / a) ≡ o → (u : ℕ) × (unused_in a l (j / a) ≡ some u)
         go none e =
-            clash (full_block (j / a) e j (div-mul-le_self j a) (lt-div-mul-add (some_letter a A))) (not_true (taken_cell l j) v)
+            clash (full_block (j / a) e j (div-mul-le_self j a) (lt-div-mul-add (some_letter a A))) (not-true (taken_cell l j) v)
         go (some u) e = (u, e)
 
     -- (q4) block 0 has base 0

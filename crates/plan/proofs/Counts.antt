@@ -9,7 +9,8 @@ use lib.ListN.{length, take, drop, take-append-drop}
 use Rattle.paper.specs.Lists.{pick, same, those, Sorted}
 use Rattle.paper.specs.Patterns.{Entry, Kind}
 use Rattle.paper.specs.Automaton.{Machine, machine, is_state, own_of}
-use Rattle.paper.proofs.Tests.{test, not_true→false}
+use Rattle.std.proofs.lemmas.Bool.{false_from_ne_true}
+use Rattle.paper.proofs.Tests.{test}
 use Rattle.paper.proofs.Strings.{same_eq, eq_same, prefix_refl}
 use Rattle.plan.specs.Breadth.{Apart, Listing}
 use Rattle.plan.specs.Outputs.{Stored, store, store_all, nothing}
@@ -41,7 +42,7 @@ one_more_there : (w : List ℕ) (f g : List ℕ → ℕ) → OneMore w f g → (
 one_more_there w f g h s e = h s ∙ rw (eq_same w s e)
 
 one_more_else : (w : List ℕ) (f g : List ℕ → ℕ) → OneMore w f g → (s : List ℕ) → Apart w s → f s ≡ g s
-one_more_else w f g h s d = h s ∙ rw (not_true→false (same w s) (λ k. d (same_eq w s k)))
+one_more_else w f g h s d = h s ∙ rw (false_from_ne_true (same w s) (λ k. d (same_eq w s k)))
 
 -- a list that has w once adds up to one more
 total_more : (w : List ℕ) (f g : List ℕ → ℕ) → OneMore w f g → (l : List (List ℕ)) → Sorted Apart l → Memᴰ w l

@@ -11,8 +11,8 @@ use native.Mathlib.Omega.{arith}
 use lib.Bits.{bit_xor}
 use lib.Dec.{eqb, leb}
 use Rattle.paper.specs.Lists.{Sorted}
-use Rattle.paper.proofs.Tests.{clash, and_left, and_right, and_both, or_left, or_right, or_cases, not_true, not_true→false, eqb_eq}
-use Rattle.paper.proofs.Tests.{eq_eqb, ne_eqb, eqb_ne, leb_le, le_leb}
+use Rattle.std.proofs.lemmas.Bool.{and_from, or_left, or_right, or_cases, not-true, false_from_ne_true, eqb-true, eq-eqb, ne_eqb, eqb-false, leb-true, le-leb, and_parts, not_from_false}
+use Rattle.paper.proofs.Tests.{clash}
 use Rattle.paper.proofs.Order.{sorted_append, sorted_cases}
 use Rattle.plan.specs.Groups.{Group, bytes_of}
 use Rattle.plan.specs.Placement.{Placed, Layout, one_block, any_of, all_of, sits, taken_cell, vacant, used_base, fits, serves, grown}
@@ -21,9 +21,6 @@ use Rattle.plan.proofs.Xor.{xor_twice, xor_byte, xor_below}
 use Rattle.plan.proofs.Scans.{any_in, to_any, any_append, all_in, to_all}
 
 -- ---- what the tests say
-
-to_not : {b : Bool} → b ≡ false → not b ≡ true
-to_not h = rw h
 
 -- a child that sits at j: its group and its byte
 pub record Sitting (ps : List Placed) (j : ℕ) : Type 0 where
@@ -37,17 +34,17 @@ module _ (l : Layout) where
   pub taken_cases : (j : ℕ) → taken_cell l j ≡ true → (j ≤ 1) ⊎ Sitting l.placed j
   unfolding taken_cell sits
   taken_cases j h =
-      ⊎_elim (λ k. inl (leb_le j 1 k)) (λ k. inr (sitting k)) (or_cases (leb j 1) (any_of (λ p. sits p j) l.placed) h)
+      ⊎_elim (λ k. inl (leb-true j 1 k)) (λ k. inr (sitting k)) (or_cases (leb j 1) (any_of (λ p. sits p j) l.placed) h)
     where
       sitting : any_of (λ p. sits p j) l.placed ≡ true → Sitting l.placed j
       sitting k =
           let r = any_in (λ p. sits p j) l.placed k in
           let q = any_in (λ c. eqb (bit_xor r.0.base c) j) (bytes_of r.0.group) r.2 in
-          record { one = r.0; listed = r.1; byte = q.0; has = q.1; is = eqb_eq (bit_xor r.0.base q.0) j q.2 }
+          record { one = r.0; listed = r.1; byte = q.0; has = q.1; is = eqb-true (bit_xor r.0.base q.0) j q.2 }
 
   pub taken_low : (j : ℕ) → j ≤ 1 → taken_cell l j ≡ true
   unfolding taken_cell
-  taken_low j h = or_left (leb j 1) (any_of (λ p. sits p j) l.placed) (le_leb j 1 h)
+  taken_low j h = or_left (leb j 1) (any_of (λ p. sits p j) l.placed) (le-leb j 1 h)
 
   pub taken_child : (j : ℕ) → Sitting l.placed j → taken_cell l j ≡ true
   unfolding taken_cell sits
@@ -55,28 +52,28 @@ module _ (l : Layout) where
       or_right (leb j 1) (any_of (λ p. sits p j) l.placed)
       (to_any (λ p. sits p j) l.placed s.listed
       (to_any (λ c. eqb (bit_xor s.one.base c) j) (bytes_of s.one.group) s.has
-      (eq_eqb (bit_xor s.one.base s.byte) j s.is)))
+      (eq-eqb (bit_xor s.one.base s.byte) j s.is)))
 
   pub vacant_off : (j : ℕ) → vacant l j ≡ true → 1 < j
-  vacant_off j h = elim (dec_lt 1 j) [ yes k ↦ k | no k ↦ clash (taken_low j (omega arith)) (not_true (taken_cell l j) h) ]
+  vacant_off j h = elim (dec_lt 1 j) [ yes k ↦ k | no k ↦ clash (taken_low j (omega arith)) (not-true (taken_cell l j) h) ]
 
   pub vacant_free : (j : ℕ) → vacant l j ≡ true → Sitting l.placed j → ⊥
-  vacant_free j h s = clash (taken_child j s) (not_true (taken_cell l j) h)
+  vacant_free j h s = clash (taken_child j s) (not-true (taken_cell l j) h)
 
   pub to_vacant : (j : ℕ) → 1 < j → (Sitting l.placed j → ⊥) → vacant l j ≡ true
   to_vacant j h k =
-      to_not (not_true→false (taken_cell l j) (λ t. ⊎_elim (λ (q : j ≤ 1). let z : ⊥ = omega arith in z) k (taken_cases j t)))
+      not_from_false _ (false_from_ne_true (taken_cell l j) (λ t. ⊎_elim (λ (q : j ≤ 1). let z : ⊥ = omega arith in z) k (taken_cases j t)))
 
   pub used_in : (b : ℕ) → used_base l b ≡ true → (p : Placed) × Memᴰ p l.placed × (p.base ≡ b)
   unfolding used_base
-  used_in b h = let r = any_in (λ p. eqb p.base b) l.placed h in (r.0, r.1, eqb_eq r.0.base b r.2)
+  used_in b h = let r = any_in (λ p. eqb p.base b) l.placed h in (r.0, r.1, eqb-true r.0.base b r.2)
 
   pub to_used : (p : Placed) → Memᴰ p l.placed → used_base l p.base ≡ true
   unfolding used_base
-  to_used p m = to_any (λ q. eqb q.base p.base) l.placed m (eq_eqb p.base p.base refl)
+  to_used p m = to_any (λ q. eqb q.base p.base) l.placed m (eq-eqb p.base p.base refl)
 
   pub to_unused : (b : ℕ) → ((p : Placed) → Memᴰ p l.placed → p.base ≢ b) → used_base l b ≡ false
-  to_unused b h = not_true→false (used_base l b) (λ k. let r = used_in b k in h r.0 r.1 r.2)
+  to_unused b h = false_from_ne_true (used_base l b) (λ k. let r = used_in b k in h r.0 r.1 r.2)
 
   -- the test for a base says what document 01 asks of it
   pub fits_is : (g : Group) (b : ℕ) → (fits l g b ≡ true) ↔ Fits l g b
@@ -88,18 +85,18 @@ module _ (l : Layout) where
 
       from : (not (eqb b 0) && (not (used_base l b) && room)) ≡ true → Fits l g b
       from h =
-          let rest = and_right (not (eqb b 0)) (not (used_base l b) && room) h in
-          let free = not_true (used_base l b) (and_left (not (used_base l b)) room rest) in
+          let rest = (and_parts (not (eqb b 0)) (not (used_base l b) && room) h).1 in
+          let free = not-true (used_base l b) (and_parts (not (used_base l b)) room rest).0 in
           record {
-            nonzero = eqb_ne b 0 (not_true (eqb b 0) (and_left (not (eqb b 0)) (not (used_base l b) && room) h));
+            nonzero = eqb-false b 0 (not-true (eqb b 0) (and_parts (not (eqb b 0)) (not (used_base l b) && room) h).0);
             unused = λ p m e. clash (to_used p m) (rw e free);
-            room = λ c m. all_in (λ d. vacant l (bit_xor b d)) (bytes_of g) (and_right (not (used_base l b)) room rest) m;
+            room = λ c m. all_in (λ d. vacant l (bit_xor b d)) (bytes_of g) (and_parts (not (used_base l b)) room rest).1 m;
           }
 
       to : Fits l g b → (not (eqb b 0) && (not (used_base l b) && room)) ≡ true
       to F =
-          and_both (not (eqb b 0)) (not (used_base l b) && room) (to_not (ne_eqb b 0 F.nonzero))
-          (and_both (not (used_base l b)) room (to_not (to_unused b F.unused))
+          and_from (not (eqb b 0)) (not (used_base l b) && room) (not_from_false _ (ne_eqb b 0 F.nonzero))
+          (and_from (not (used_base l b)) room (not_from_false _ (to_unused b F.unused))
           (to_all (λ d. vacant l (bit_xor b d)) (bytes_of g) F.room))
 
   -- the index of a base that fits is vacant: the lowest child sits there

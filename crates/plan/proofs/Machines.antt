@@ -11,7 +11,7 @@ use lib.ListN.{length}
 use Rattle.paper.specs.Lists.{prefix, snoc}
 use Rattle.paper.specs.Patterns.{Entry, Kind, Proper}
 use Rattle.paper.specs.Automaton.{machine, is_state}
-use Rattle.paper.proofs.Tests.{or_cases}
+use Rattle.std.proofs.lemmas.Bool.{or_cases}
 use Rattle.paper.proofs.Strings.{prefix_rest, prefix_length, snoc_append, length_snoc}
 use Rattle.paper.proofs.Machines.{machine_states}
 use Rattle.plan.specs.Breadth.{Bounded, Within}

@@ -13,7 +13,8 @@ use lib.Seq.{get_or-append_seam}
 use Rattle.paper.specs.Lists.{same, prefix, snoc}
 use Rattle.paper.specs.Patterns.{Entry}
 use Rattle.paper.specs.Automaton.{is_state}
-use Rattle.paper.proofs.Tests.{test, clash, true_both, or_left, or_right, or_cases, eqb_eq, and_left, and_right}
+use Rattle.std.proofs.lemmas.Bool.{or_left, or_right, or_cases, eqb-true, and_parts}
+use Rattle.paper.proofs.Tests.{test, clash, true_both}
 use Rattle.paper.proofs.Strings.{same_eq, same_refl, prefix_append, snoc_append}
 use Rattle.paper.proofs.Machines.{state_root}
 use Rattle.plan.specs.Names.{has, made, along, names_from, root_and_dead, names, Distinct}
@@ -77,11 +78,11 @@ prefix_within : (u r w : List ℕ) (x : ℕ) → prefix (x ∷ r) w ≡ true →
 unfolding within prefix
 prefix_within u r [] x h = clash refl (sym h)
 prefix_within u [] (c ∷ w) x h =
-    let e : x ≡ c = eqb_eq x c (and_left (eqb x c) true h) in
+    let e : x ≡ c = eqb-true x c (and_parts (eqb x c) true h).0 in
     rw (← snoc_append u x [], append-nil, e) (or_left (same (snoc u c) (snoc u c)) (within (snoc u c) w (snoc u c)) (same_refl (snoc u c)))
 prefix_within u (y ∷ r) (c ∷ w) x h =
-    let e : x ≡ c = eqb_eq x c (and_left (eqb x c) (prefix (y ∷ r) w) h) in
-    let k : prefix (y ∷ r) w ≡ true = and_right (eqb x c) (prefix (y ∷ r) w) h in
+    let e : x ≡ c = eqb-true x c (and_parts (eqb x c) (prefix (y ∷ r) w) h).0 in
+    let k : prefix (y ∷ r) w ≡ true = (and_parts (eqb x c) (prefix (y ∷ r) w) h).1 in
     rw (← snoc_append u x (y ∷ r), e)
     (or_right (same (snoc u c ++ y ∷ r) (snoc u c)) (within (snoc u c) w (snoc u c ++ y ∷ r)) (prefix_within (snoc u c) r w y k))
 

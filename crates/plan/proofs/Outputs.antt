@@ -14,7 +14,8 @@ use lib.Seq.{take-suc, take-length, append_snoc, get_or-append_seam}
 use Rattle.paper.specs.Lists.{same, Sorted}
 use Rattle.paper.specs.Patterns.{Entry}
 use Rattle.paper.specs.Automaton.{Machine, Link, dead, to, link, failure, onward, chain, output, landed}
-use Rattle.paper.proofs.Tests.{test, clash, not_true→false}
+use Rattle.std.proofs.lemmas.Bool.{false_from_ne_true}
+use Rattle.paper.proofs.Tests.{test, clash}
 use Rattle.paper.proofs.Strings.{same_eq, eq_same, same_refl}
 use Rattle.paper.proofs.Links.{Lawful, link_cases, ruled}
 use Rattle.paper.proofs.Outputs.{chain_is, output_is}
@@ -110,7 +111,7 @@ module _ (M : Machine) (e : Stored) (s : List ℕ) where
   -- other places stay
   pub store_other : (w : List ℕ) → Apart w s → (store M e s).place w ≡ e.place w
   unfolding store
-  store_other w h = rw (not_true→false (same w s) (λ k. h (same_eq w s k)))
+  store_other w h = rw (false_from_ne_true (same w s) (λ k. h (same_eq w s k)))
 
   store_keeps : (p : ℕ) (l : List Entry) → Chained e.outs p l → Chained (store M e s).outs p l
   unfolding store

@@ -11,7 +11,8 @@ use native.Mathlib.Omega.{arith}
 use lib.Bits.{bit_xor}
 use lib.Dec.{eqb}
 use Rattle.paper.specs.Lists.{pick, same, snoc, Sorted}
-use Rattle.paper.proofs.Tests.{test, clash, eqb_eq, ne_eqb, eqb_ne}
+use Rattle.std.proofs.lemmas.Bool.{eqb-true, ne_eqb, eqb-false}
+use Rattle.paper.proofs.Tests.{test, clash}
 use Rattle.paper.proofs.Strings.{same_eq, eq_same, snoc_append}
 use Rattle.paper.proofs.Order.{not_head, sorted_cases}
 use Rattle.paper.proofs.Links.{Ended, none as nothing, last, ended}
@@ -72,7 +73,7 @@ unfolding child_at
 child_some s b [] j t e = absurd (none-ne-some t e)
 child_some s b (c ∷ cs) j t e =
     test (eqb (bit_xor b c) j)
-    (λ h. (c, Memᴰ.head refl, sym (some-injective (snoc s c) t (rw h at e)), eqb_eq (bit_xor b c) j h))
+    (λ h. (c, Memᴰ.head refl, sym (some-injective (snoc s c) t (rw h at e)), eqb-true (bit_xor b c) j h))
     (λ h. let r = child_some s b cs j t (rw h at e) in (r.0, Memᴰ.tail r.1, r.2, r.3))
 
 child_none : (s : List ℕ) (b : ℕ) (cs : List ℕ) (j : ℕ) → child_at s b cs j ≡ none → (c : ℕ) → Memᴰ c cs → bit_xor b c ≢ j
@@ -80,7 +81,7 @@ unfolding child_at
 child_none s b [] j e c m = absurd (Memᴰ.not-nil m)
 child_none s b (d ∷ cs) j e c m =
     test (eqb (bit_xor b d) j) (λ h. absurd (none-ne-some (snoc s d) (sym (rw h at e))))
-    (λ h. ⊎_elim (λ q. rw q (eqb_ne (bit_xor b d) j h)) (λ k. child_none s b cs j (rw h at e) c k) (Memᴰ.cases_cons m))
+    (λ h. ⊎_elim (λ q. rw q (eqb-false (bit_xor b d) j h)) (λ k. child_none s b cs j (rw h at e) c k) (Memᴰ.cases_cons m))
 
 owner_in_some : (ps : List Placed) (j : ℕ) (t : List ℕ) → owner_in ps j ≡ some t
     → (C : Sitting ps j) × (t ≡ snoc C.one.group.parent C.byte)
@@ -248,7 +249,7 @@ module _ (a n : ℕ) (A : Alphabet a) (S : List ℕ → Bool) (L : Bounded a n S
   owner_state j s e =
       test (eqb j 0)
       (λ h. let r : [] ≡ s = some-injective [] s (rw h at e) in
-      rw (← r) (L.root, cell_root l ∙ sym (eqb_eq j 0 h)))
+      rw (← r) (L.root, cell_root l ∙ sym (eqb-true j 0 h)))
       (λ h. by_child (owner_in_some l.placed j s (rw h at e)))
     where
       by_child : (C : Sitting l.placed j) × (s ≡ snoc C.one.group.parent C.byte) → (S s ≡ true) × (cell_of l s ≡ j)

@@ -12,7 +12,8 @@ use native.Mathlib.Decide.{dec_lt}
 use native.Mathlib.Omega.{arith}
 use lib.Bits.{bit_xor}
 use lib.ListN.{length, take, drop, take-append-drop}
-use Rattle.paper.proofs.Tests.{clash, and_left, and_right, and_both, not_true→false}
+use Rattle.std.proofs.lemmas.Bool.{and_from, false_from_ne_true, and_parts}
+use Rattle.paper.proofs.Tests.{clash}
 use Rattle.plan.specs.Groups.{Group}
 use Rattle.plan.specs.Placement.{Layout, taken_cell, vacant, used_base, fits, serves, look, window_start, grown, placed_by, put, on_look}
 use Rattle.plan.specs.Placement.{place, Task, place_tasks, tasks, place_all, Alphabet, Reaches, Lettered, Fits, FirstIndex, NoIndex}
@@ -40,12 +41,12 @@ module _ (a : ℕ) where
   module _ (start : ℕ → ℕ) (l : Layout) (g : Group) where
     serves_not : (j : ℕ) → serves l g j ≡ false → vacant l j ≡ true → fits l g (bit_xor j g.low) ≡ false
     serves_not j h v =
-        not_true→false (fits l g (bit_xor j g.low)) (λ k. clash (and_both (vacant l j) (fits l g (bit_xor j g.low)) v k) h)
+        false_from_ne_true (fits l g (bit_xor j g.low)) (λ k. clash (and_from (vacant l j) (fits l g (bit_xor j g.low)) v k) h)
 
     not_serves : (j : ℕ) → (vacant l j ≡ true → fits l g (bit_xor j g.low) ≡ false) → serves l g j ≡ false
     not_serves j h =
-        not_true→false (serves l g j)
-        (λ k. clash (and_right (vacant l j) (fits l g (bit_xor j g.low)) k) (h (and_left (vacant l j) (fits l g (bit_xor j g.low)) k)))
+        false_from_ne_true (serves l g j)
+        (λ k. clash (and_parts (vacant l j) (fits l g (bit_xor j g.low)) k).1 (h (and_parts (vacant l j) (fits l g (bit_xor j g.low)) k).0))
 
     pub look_some : (i : ℕ) → look a start l g ≡ some i → FirstIndex a start l g i
     unfolding look
@@ -54,8 +55,8 @@ module _ (a : ℕ) where
         record {
           from = F.from;
           within = range_end l.blocks (start l.blocks) i F.from F.within;
-          free = and_left (vacant l i) (fits l g (bit_xor i g.low)) F.passed;
-          room = and_right (vacant l i) (fits l g (bit_xor i g.low)) F.passed;
+          free = (and_parts (vacant l i) (fits l g (bit_xor i g.low)) F.passed).0;
+          room = (and_parts (vacant l i) (fits l g (bit_xor i g.low)) F.passed).1;
           first = λ j h k. serves_not j (F.first j h k);
         }
 
@@ -74,7 +75,7 @@ module _ (a : ℕ) where
         (record {
           from = F.from;
           within = range_in l.blocks (start l.blocks) i F.within;
-          passed = and_both (vacant l i) (fits l g (bit_xor i g.low)) F.free F.room;
+          passed = and_from (vacant l i) (fits l g (bit_xor i g.low)) F.free F.room;
           first = λ j h k. not_serves j (F.first j h k);
         })
 

@@ -10,7 +10,8 @@ use native.Mathlib.Decide.{ℕ_discrete, dec_lt}
 use native.Mathlib.Omega.{arith}
 use lib.ListN.{length, get_or}
 use Rattle.paper.specs.Lists.{each}
-use Rattle.paper.proofs.Tests.{test, clash, and_left, and_right, and_both, or_left, or_right, or_cases}
+use Rattle.std.proofs.lemmas.Bool.{and_from, or_left, or_right, or_cases, and_parts}
+use Rattle.paper.proofs.Tests.{test, clash}
 use Rattle.plan.specs.Placement.{any_of, all_of, first_where}
 
 -- ---- an element passes, all pass
@@ -39,13 +40,13 @@ module _ {A : Type 0} (passes : A → Bool) where
   unfolding all_of
   all_in [] h m = absurd (Memᴰ.not-nil m)
   all_in (y ∷ l) h m =
-      ⊎_elim (λ e. rw e (and_left (passes y) (all_of passes l) h)) (λ k. all_in l (and_right (passes y) (all_of passes l) h) k)
+      ⊎_elim (λ e. rw e (and_parts (passes y) (all_of passes l) h).0) (λ k. all_in l (and_parts (passes y) (all_of passes l) h).1 k)
       (Memᴰ.cases_cons m)
 
   pub to_all : (l : List A) → ((x : A) → Memᴰ x l → passes x ≡ true) → all_of passes l ≡ true
   unfolding all_of
   to_all [] h = refl
-  to_all (y ∷ l) h = and_both (passes y) (all_of passes l) (h y (Memᴰ.head refl)) (to_all l (λ x m. h x (Memᴰ.tail m)))
+  to_all (y ∷ l) h = and_from (passes y) (all_of passes l) (h y (Memᴰ.head refl)) (to_all l (λ x m. h x (Memᴰ.tail m)))
 
 -- ---- the first number that passes
 

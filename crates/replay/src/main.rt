@@ -3,97 +3,91 @@
 #![tactic(auto)]
 
 mod built;
+mod case;
 mod given;
 mod numbers;
-mod run;
+mod results;
 mod searches;
-mod sequences;
-mod tables;
+mod tally;
 
 use built::compare_built;
+use case::{Case, Stop, Unreadable};
 use given::compare_given;
-use numbers::{ENDED, NUMBERS, PART, Reading, WHOLE, read_case};
-use run::{Run, differ, fail, number, pass, print_number, say};
+use numbers::Reading;
+use std::alloc::Global;
+use std::convert::TryFrom;
 use std::io;
-use std::num::wrapping_add_u32;
+use std::io::{BufReader, Read, Stdin};
+use tally::Tally;
 
-// What a case begins with: a list that is built, with its cells recorded or not, or tables that are searched as they are.
-const BUILT: u32 = 1;
+// What a case is, by the number that it begins with.
+#[derive(Clone, Copy, Debug, PartialEq, Eq)]
+enum Sort {
+    // A list that is built, with its cells recorded.
+    Built,
+    // A list that is built, with its cells left out.
+    Unseen,
+    // Tables that are searched as they are.
+    Given,
+}
 
-const UNSEEN: u32 = 2;
+impl TryFrom<u32> for Sort {
+    type Error = Unreadable;
 
-const GIVEN: u32 = 3;
-
-fn compare_case(numbers: &[u32], run: Run) -> Run {
-    match number(numbers, 0, 0) {
-        BUILT => compare_built(numbers, pass(run, 1), true),
-        UNSEEN => compare_built(numbers, pass(run, 1), false),
-        GIVEN => compare_given(numbers, pass(run, 1)),
-        _ => fail(run),
+    fn try_from(number: u32) -> Result<Sort, Unreadable> {
+        match number {
+            1 => Ok(Sort::Built),
+            2 => Ok(Sort::Unseen),
+            3 => Ok(Sort::Given),
+            _ => Err(Unreadable),
+        }
     }
+}
+
+fn compare_case(mut case: Case<'_>, alloc: Global) -> Result<(), Stop> {
+    match Sort::try_from(case.number()?)? {
+        Sort::Built => compare_built(&mut case, alloc, true)?,
+        Sort::Unseen => compare_built(&mut case, alloc, false)?,
+        Sort::Given => compare_given(&mut case, alloc)?,
+    }
+    Ok(case.end()?)
 }
 
 // A case that cannot be read, or that has more numbers than were asked for, is a difference like any other.
-fn run_case(numbers: &[u32; NUMBERS], run: Run) -> io::Result<Run> {
-    let compared = compare_case(numbers, run);
-    compared.told?;
-    if compared.broken || compared.place != compared.end {
-        print_number(compared.out, b"case ", compared.case as u64)?;
-        say(compared.out, b" cannot be read\n")?;
-        return Ok(differ(compared));
+fn run_case(reading: &Reading, alloc: Global, tally: &mut Tally) -> io::Result<()> {
+    tally.begin_case();
+    match compare_case(reading.case(tally), alloc) {
+        Ok(()) => Ok(()),
+        Err(Stop::Unreadable) => tally.tell_unreadable(),
+        Err(Stop::Io(error)) => Err(error),
     }
-    Ok(compared)
 }
 
-// The next case, or what is left of the input where it ends with a case that is not whole.
-fn run_read(numbers: &[u32; NUMBERS], run: Run, reading: Reading) -> io::Result<Run> {
-    if reading.within == ENDED && reading.count == 0 {
-        return Ok(run);
+// Runs each case up to the end of the input, or up to one that is not in the notation.
+fn run(input: Stdin, alloc: Global, tally: &mut Tally) -> io::Result<()> {
+    let mut reading = Reading::new(alloc)?;
+    for byte in BufReader::new(alloc, input)?.bytes() {
+        match reading.take(byte?) {
+            Ok(false) => {}
+            Ok(true) => {
+                run_case(&reading, alloc, tally)?;
+                reading.begin_case();
+            }
+            Err(Unreadable) => {
+                tally.begin_case();
+                return tally.tell_unreadable();
+            }
+        }
     }
-    let mut next = run;
-    next.case = wrapping_add_u32(run.case, 1);
-    next.place = 0;
-    next.end = reading.count;
-    next.broken = reading.within != WHOLE;
-    run_case(numbers, next)
-}
-
-fn report(run: Run) -> io::Result<()> {
-    print_number(run.out, b"", run.case as u64)?;
-    print_number(run.out, b" cases, ", run.agreed as u64)?;
-    say(run.out, b" answers agree\n")?;
-    if run.differing != 0 {
-        print_number(run.out, b"", run.differing as u64)?;
-        say(run.out, b" answers differ\n")?;
+    if reading.is_within_case() {
+        tally.begin_case();
+        tally.tell_unreadable()?;
     }
     Ok(())
 }
 
 fn main(rt: HostRuntime) -> io::Result<()> {
-    let mut numbers = [0u32; NUMBERS];
-    let mut room = [0u8; PART];
-    let mut reading = Reading {
-        within: WHOLE,
-        count: 0,
-        next: 0,
-        filled: 0,
-    };
-    let mut run = Run {
-        out: rt.stdout(),
-        told: Ok(()),
-        case: 0,
-        place: 0,
-        end: 0,
-        broken: false,
-        agreed: 0,
-        differing: 0,
-        last_told: 0,
-    };
-    let mut turns = u64::MAX;
-    while turns > 0 && reading.within == WHOLE {
-        reading = read_case(rt.stdin(), &mut numbers, &mut room, reading)?;
-        run = run_read(&numbers, run, reading)?;
-        turns -= 1;
-    }
-    report(run)
+    let mut tally = Tally::new(rt.stdout());
+    run(rt.stdin(), rt.alloc(), &mut tally)?;
+    tally.report()
 }

@@ -1,33 +1,46 @@
 // The recorded answers of the three searches of a text, each held to what a call gives: one call after the other, each on the value that
 // was handed back before.
-use crate::run::{Run, judge, number, pass};
-use crate::sequences::{at_most, fill_bytes};
-use search::{Answer, Refusal, Search};
-use std::num::wrapping_add_usize;
-use table::{CellId, Counts, Depth};
+use crate::case::{Case, Stop, Unreadable};
+use search::{Answer, Match, Refusal, Search};
+use std::alloc::Global;
+use table::{CellId, Tables};
 
 // The room of a text: one byte more than a text may have, and a little more.
 const TEXT: usize = 65600;
 
-const OVERLAPPING: u32 = 0;
+// What the parts of an answer are called, in the order in which they are recorded.
+const PARTS: &[&str] = &[
+    "answer of call",
+    "start of match",
+    "end of match",
+    "value of match",
+    "state after call",
+    "output after call",
+    "place after call",
+    "moves after call",
+];
 
-const PLAIN: u32 = 1;
-
-const LEFTMOST: u32 = 2;
-
-// What an answer is: one of these, or the number of the refusal.
+// An answer begins with one of these, or with the number of the refusal.
 const MATCH: u32 = 1;
 
 const END: u32 = 2;
 
-// An answer in numbers. The match is 0 where there is none.
+// An answer as it is told. A refusal is a number, since a wrong record may have any.
 #[derive(Clone, Copy)]
-struct SearchAnswer {
-    tag: u32,
-    start: u64,
-    end: u64,
-    value: u32,
-    next: Search,
+enum Told {
+    Match(Match, Search),
+    End(Search),
+    Refused(u32, Search),
+}
+
+impl From<Answer> for Told {
+    fn from(answer: Answer) -> Told {
+        match answer {
+            Answer::Match(found, next) => Told::Match(found, next),
+            Answer::End(next) => Told::End(next),
+            Answer::Refused(refusal, next) => Told::Refused(number_of(refusal), next),
+        }
+    }
 }
 
 fn number_of(refusal: Refusal) -> u32 {
@@ -38,277 +51,121 @@ fn number_of(refusal: Refusal) -> u32 {
     }
 }
 
-fn without_match(tag: u32, next: Search) -> SearchAnswer {
-    SearchAnswer {
-        tag,
-        start: 0,
-        end: 0,
-        value: 0,
-        next,
+impl Told {
+    // The recorded answer to a call on a value. A refusal hands the value back as it came in, and nothing is recorded beside its number.
+    fn recorded(case: &mut Case<'_>, value: Search) -> Result<Told, Unreadable> {
+        match case.number()? {
+            MATCH => Ok(Told::Match(recorded_match(case)?, recorded_value(case)?)),
+            END => Ok(Told::End(recorded_value(case)?)),
+            refusal => Ok(Told::Refused(refusal, value)),
+        }
+    }
+
+    // The value that comes back.
+    fn value(self) -> Search {
+        match self {
+            Told::Match(_, next) | Told::End(next) | Told::Refused(_, next) => next,
+        }
+    }
+
+    // Part by part. The match is 0 where there is none.
+    fn parts(self) -> [u64; 8] {
+        let (answer, found) = match self {
+            Told::Match(found, _) => (MATCH, found),
+            Told::End(_) => (END, NO_MATCH),
+            Told::Refused(refusal, _) => (refusal, NO_MATCH),
+        };
+        let next = self.value();
+        [
+            u64::from(answer),
+            found.start as u64,
+            found.end as u64,
+            u64::from(found.value),
+            u64::from(next.state.0),
+            u64::from(next.output),
+            next.place as u64,
+            next.moves,
+        ]
     }
 }
 
-fn search_answer(answer: Answer) -> SearchAnswer {
-    match answer {
-        Answer::Match(found, next) => SearchAnswer {
-            tag: MATCH,
-            start: found.start as u64,
-            end: found.end as u64,
-            value: found.value,
-            next,
-        },
-        Answer::End(next) => without_match(END, next),
-        Answer::Refused(refusal, next) => without_match(number_of(refusal), next),
-    }
+const NO_MATCH: Match = Match {
+    start: 0,
+    end: 0,
+    value: 0,
+};
+
+fn recorded_match(case: &mut Case<'_>) -> Result<Match, Unreadable> {
+    let [start, end, value] = case.take::<3>()?;
+    Ok(Match {
+        start: start as usize,
+        end: end as usize,
+        value,
+    })
 }
 
-// One call of a search.
-fn ask(
-    which: u32,
-    value: Search,
-    base: &[u32],
-    link: &[u32],
-    output: &[u32],
-    check: &[u8],
-    depth: &[Depth],
-    outs: &[[u32; 3]],
-    counts: Counts,
-    text: &[u8],
-) -> SearchAnswer {
-    if which == OVERLAPPING {
-        return search_answer(value.next_overlapping(
-            base, link, output, check, depth, outs, counts, text,
-        ));
-    }
-    if which == PLAIN {
-        return search_answer(value.next_plain(
-            base, link, output, check, depth, outs, counts, text,
-        ));
-    }
-    search_answer(value.next_leftmost(base, link, output, check, depth, outs, counts, text))
+// The value after a match or an end: it has been walked to, so its numbers are small.
+fn recorded_value(case: &mut Case<'_>) -> Result<Search, Unreadable> {
+    let [state, output, place, moves] = case.take::<4>()?;
+    Ok(Search {
+        state: CellId(state),
+        output,
+        place: place as usize,
+        moves: u64::from(moves),
+    })
 }
 
 // Two numbers make one of 64 bits, the high half first.
-fn long_number(numbers: &[u32], at: usize) -> u64 {
-    number(numbers, at, 0) as u64 * 4294967296 + number(numbers, at, 1) as u64
+fn long_number(high: u32, low: u32) -> u64 {
+    u64::from(high) << 32 | u64::from(low)
 }
 
 // The value that the searches of a text start from.
-fn recorded_start(numbers: &[u32], at: usize) -> Search {
-    Search {
-        state: CellId(number(numbers, at, 0)),
-        output: number(numbers, at, 1),
-        place: long_number(numbers, wrapping_add_usize(at, 2)) as usize,
-        moves: long_number(numbers, wrapping_add_usize(at, 4)),
-    }
-}
-
-const START: usize = 6;
-
-// The value after a match or an end: it has been walked to, so its numbers are small.
-fn recorded_value(numbers: &[u32], at: usize) -> Search {
-    Search {
-        state: CellId(number(numbers, at, 0)),
-        output: number(numbers, at, 1),
-        place: number(numbers, at, 2) as usize,
-        moves: number(numbers, at, 3) as u64,
-    }
-}
-
-// A refusal hands back the value as it came in, and nothing is recorded beside its number.
-fn recorded_answer(numbers: &[u32], at: usize, value: Search) -> SearchAnswer {
-    let tag = number(numbers, at, 0);
-    match tag {
-        MATCH => SearchAnswer {
-            tag,
-            start: number(numbers, at, 1) as u64,
-            end: number(numbers, at, 2) as u64,
-            value: number(numbers, at, 3),
-            next: recorded_value(numbers, wrapping_add_usize(at, 4)),
-        },
-        END => without_match(tag, recorded_value(numbers, wrapping_add_usize(at, 1))),
-        _ => without_match(tag, value),
-    }
-}
-
-// How many numbers tell an answer.
-fn width(tag: u32) -> usize {
-    match tag {
-        MATCH => 8,
-        END => 5,
-        _ => 1,
-    }
-}
-
-fn compare_value(run: Run, call: usize, due: Search, here: Search) -> Run {
-    let state = judge(
-        run,
-        b"state after call",
-        call,
-        due.state.0 as u64,
-        here.state.0 as u64,
-    );
-    let output = judge(
-        state,
-        b"output after call",
-        call,
-        due.output as u64,
-        here.output as u64,
-    );
-    let place = judge(
+fn recorded_start(case: &mut Case<'_>) -> Result<Search, Unreadable> {
+    let [state, output, place_high, place_low, moves_high, moves_low] = case.take::<6>()?;
+    Ok(Search {
+        state: CellId(state),
         output,
-        b"place after call",
-        call,
-        due.place as u64,
-        here.place as u64,
-    );
-    judge(place, b"moves after call", call, due.moves, here.moves)
+        place: long_number(place_high, place_low) as usize,
+        moves: long_number(moves_high, moves_low),
+    })
 }
 
-fn compare_answer(run: Run, call: usize, due: SearchAnswer, here: SearchAnswer) -> Run {
-    let sort = judge(
-        run,
-        b"answer of call",
-        call,
-        due.tag as u64,
-        here.tag as u64,
-    );
-    let start = judge(sort, b"start of match", call, due.start, here.start);
-    let end = judge(start, b"end of match", call, due.end, here.end);
-    let value = judge(
-        end,
-        b"value of match",
-        call,
-        due.value as u64,
-        here.value as u64,
-    );
-    let next = due.next;
-    compare_value(value, call, next, here.next)
-}
-
-// The answers of one search.
-fn compare_course(
-    numbers: &[u32],
-    run: Run,
-    which: u32,
+// The answers of one search, whose next one `next` gives.
+fn compare_course<F: Fn(Search) -> Answer>(
+    case: &mut Case<'_>,
     start: Search,
-    base: &[u32],
-    link: &[u32],
-    output: &[u32],
-    check: &[u8],
-    depth: &[Depth],
-    outs: &[[u32; 3]],
-    counts: Counts,
-    text: &[u8],
-) -> Run {
-    let calls = number(numbers, run.place, 0);
-    let mut at = pass(run, 1);
+    next: F,
+) -> Result<(), Stop>
+    requires { F.IsAlwaysCallable next }
+{
     let mut value = start;
-    let mut i = 0;
-    while i < calls && !at.broken {
-        let due = recorded_answer(numbers, at.place, value);
-        let here = ask(
-            which, value, base, link, output, check, depth, outs, counts, text,
-        );
-        at = compare_answer(pass(at, width(due.tag)), i as usize, due, here);
-        value = here.next;
-        i += 1;
+    for call in 0..case.number()? {
+        let due = Told::recorded(case, value)?;
+        let here = Told::from(next(value));
+        case.judge(PARTS, call as usize, &due.parts(), &here.parts())?;
+        value = here.value();
     }
-    at
+    Ok(())
 }
 
 // All three searches, from the same value.
-fn compare_searches(
-    numbers: &[u32],
-    run: Run,
-    base: &[u32],
-    link: &[u32],
-    output: &[u32],
-    check: &[u8],
-    depth: &[Depth],
-    outs: &[[u32; 3]],
-    counts: Counts,
-    text: &[u8],
-) -> Run {
-    let start = recorded_start(numbers, run.place);
-    let overlapping = compare_course(
-        numbers,
-        pass(run, START),
-        OVERLAPPING,
-        start,
-        base,
-        link,
-        output,
-        check,
-        depth,
-        outs,
-        counts,
-        text,
-    );
-    let plain = compare_course(
-        numbers,
-        overlapping,
-        PLAIN,
-        start,
-        base,
-        link,
-        output,
-        check,
-        depth,
-        outs,
-        counts,
-        text,
-    );
-    compare_course(
-        numbers, plain, LEFTMOST, start, base, link, output, check, depth, outs, counts, text,
-    )
-}
-
-fn compare_text(
-    numbers: &[u32],
-    run: Run,
-    base: &[u32],
-    link: &[u32],
-    output: &[u32],
-    check: &[u8],
-    depth: &[Depth],
-    outs: &[[u32; 3]],
-    counts: Counts,
-) -> Run {
-    let mut text = [0u8; TEXT];
-    let filled = fill_bytes(numbers, run, &mut text);
-    let end = at_most(filled.length, TEXT);
-    compare_searches(
-        numbers,
-        filled.run,
-        base,
-        link,
-        output,
-        check,
-        depth,
-        outs,
-        counts,
-        &text[..end],
-    )
+fn compare_text(case: &mut Case<'_>, alloc: Global, tables: &Tables<'_>) -> Result<(), Stop> {
+    let text: Vec<u8> = case.column(alloc, TEXT)?;
+    let text = &text;
+    let start = recorded_start(case)?;
+    compare_course(case, start, |value| value.next_overlapping(tables, text))?;
+    compare_course(case, start, |value| value.next_plain(tables, text))?;
+    compare_course(case, start, |value| value.next_leftmost(tables, text))
 }
 
 pub(crate) fn compare_texts(
-    numbers: &[u32],
-    run: Run,
-    base: &[u32],
-    link: &[u32],
-    output: &[u32],
-    check: &[u8],
-    depth: &[Depth],
-    outs: &[[u32; 3]],
-    counts: Counts,
-) -> Run {
-    let count = number(numbers, run.place, 0);
-    let mut at = pass(run, 1);
-    let mut i = 0;
-    while i < count && !at.broken {
-        at = compare_text(numbers, at, base, link, output, check, depth, outs, counts);
-        i += 1;
+    case: &mut Case<'_>,
+    alloc: Global,
+    tables: &Tables<'_>,
+) -> Result<(), Stop> {
+    for _ in 0..case.number()? {
+        compare_text(case, alloc, tables)?;
     }
-    at
+    Ok(())
 }

@@ -6,15 +6,16 @@ use mathlib.Core.Logic.{◌⊎◌, inl, inr, ◌↔◌}
 use Prim.Native.Nat.{ℕ, ◌+◌, ◌≤◌, ◌<◌}
 use native.Mathlib.Omega.{arith}
 use lib.ListN.{length, length-drop, drop_of_length-le}
+use Rattle.std.specs.Prelude.{Result, Ok, Err}
 use Rattle.list.specs.Limits.{most_text}
 use Rattle.table.specs.Agrees.{Tables}
 use Rattle.table.specs.declared.Row.{Row}
+use Rattle.table.specs.declared.Damage.{Damage}
+use Rattle.table.specs.Readers.{damage}
 use Rattle.search.specs.declared.Search.{Search}
 use Rattle.search.specs.declared.Match.{Match}
 use Rattle.search.specs.declared.seek.Sought.{Sought}
 use Rattle.search.specs.declared.seek.Sought.TheVariants as sought
-use Rattle.search.specs.declared.keep.Kept.{Kept}
-use Rattle.search.specs.declared.keep.Kept.TheVariants as kept
 use Rattle.search.specs.Values.{Which, overlapping, plain, leftmost, root, value_of, match_of, Outcome, gives, ends, refuses}
 use Rattle.search.specs.Searches.{seek_of, keep_of, rest, cleared, from, is_leftmost, after_leftmost, at_output, at_end, walk_of, next_of}
 use Rattle.search.specs.Damage.{WalkMeets, KeepMeets, ShowsAtFirst, Damaged, shown_at_first, in_walk, with_match}
@@ -77,22 +78,22 @@ module _ (T : Tables) (kind : ℕ) (text : List ℕ) (v : Search) (short : lengt
   begin leftmost = record { rooms = F.rooms; state = F.state; place = F.place }
 
   -- what the walk comes to up to the first output
-  abbrev found : Which → Sought
+  abbrev found : Which → Result Sought Damage
   found w = seek_of (is_leftmost w) T (from w v) (rest text (from w v))
 
-  comes_to : (w : Which) (r : Sought) → found w ≡ r → Comes T (from w v) (rest text (from w v)) r
+  comes_to : (w : Which) (r : Result Sought Damage) → found w ≡ r → Comes T (from w v) (rest text (from w v)) r
   comes_to w r e =
       subst (Comes T (from w v) (rest text (from w v))) e (comes T F.rooms (is_leftmost w) (rest text (from w v)) (from w v) (begin w).state)
 
-  found_meets : (w : Which) → (found w ≡ sought.Damage) ↔ WalkMeets (is_leftmost w) T (from w v) (rest text (from w v))
+  found_meets : (w : Which) → (found w ≡ damage) ↔ WalkMeets (is_leftmost w) T (from w v) (rest text (from w v))
   found_meets w = seeking T F.rooms (is_leftmost w) (rest text (from w v)) (from w v) (begin w).state
 
   -- what a leftmost walk keeps from the first output on
-  abbrev held : Row → Search → Kept
+  abbrev held : Row → Search → Result (Match × Search) Damage
   held row at = keep_of T (match_of row at.place) at (rest text at)
 
-  held_meets : (row : Row) (at : Search) → found leftmost ≡ sought.Given row at → (held row at ≡ kept.Damage) ↔ KeepMeets T at (rest text at)
-  held_meets row at e = keeping T F.rooms (rest text at) (match_of row at.place) at (comes_to leftmost (sought.Given row at) e).state
+  held_meets : (row : Row) (at : Search) → found leftmost ≡ Ok (sought.Given row at) → (held row at ≡ damage) ↔ KeepMeets T at (rest text at)
+  held_meets row at e = keeping T F.rooms (rest text at) (match_of row at.place) at (comes_to leftmost (Ok (sought.Given row at)) e).state
 
   -- the match of the first output, and the one that a leftmost walk keeps, lie in the text from the value's place on
   whole_rest : (w : Which) → length text ≡ (from w v).place + length (rest text (from w v))
@@ -103,28 +104,28 @@ module _ (T : Tables) (kind : ℕ) (text : List ℕ) (v : Search) (short : lengt
   same_place plain = refl
   same_place leftmost = refl
 
-  lies_there : (w : Which) (row : Row) (at : Search) → found w ≡ sought.Given row at → Lies v.place (length text) (match_of row at.place)
+  lies_there : (w : Which) (row : Row) (at : Search) → found w ≡ Ok (sought.Given row at) → Lies v.place (length text) (match_of row at.place)
   lies_there w row at e =
       subst (λ (p : ℕ). Lies p (length text) (match_of row at.place)) (same_place w)
-      (match_there T (from w v) (rest text (from w v)) row at (length text) (whole_rest w) (comes_to w (sought.Given row at) e))
+      (match_there T (from w v) (rest text (from w v)) row at (length text) (whole_rest w) (comes_to w (Ok (sought.Given row at)) e))
 
-  held_lies : (row : Row) (at : Search) → found leftmost ≡ sought.Given row at → KeptLies v.place (length text) (held row at)
+  held_lies : (row : Row) (at : Search) → found leftmost ≡ Ok (sought.Given row at) → KeptLies v.place (length text) (held row at)
   held_lies row at e =
-      let G = comes_to leftmost (sought.Given row at) e in
+      let G = comes_to leftmost (Ok (sought.Given row at)) e in
       let within : at.place ≤ length text = omega (arith, G.to, whole_rest leftmost) in
       keep_lies T F.rooms v.place (length text) (rest text at) (match_of row at.place) at G.state G.from (sym (taken_left text at within))
       (lies_there leftmost row at e)
 
   -- the answers at an output and at the text's end
-  output_says : (w : Which) → (WrongKind w kind → ⊥) → (row : Row) (at : Search) → found w ≡ sought.Given row at
+  output_says : (w : Which) → (WrongKind w kind → ⊥) → (row : Row) (at : Search) → found w ≡ Ok (sought.Given row at)
       → Says w T kind text v (at_output w T text v row at)
   output_says overlapping n row at e = (refl, lies_there overlapping row at e)
   output_says plain n row at e = ((refl, refl, refl), lies_there plain row at e)
   output_says leftmost n row at e = go (held row at) refl
     where
-      go : (r : Kept) → held row at ≡ r → Says leftmost T kind text v (at_output leftmost T text v row at)
-      go (kept.Given m stop) k = rw k (refl, subst (KeptLies v.place (length text)) k (held_lies row at e))
-      go kept.Damage k = rw k (refl, eleven_caused n short (with_match row at refl e ((held_meets row at e).0 k)))
+      go : (r : Result (Match × Search) Damage) → held row at ≡ r → Says leftmost T kind text v (at_output leftmost T text v row at)
+      go (Ok p) k = rw k (refl, subst (KeptLies v.place (length text)) k (held_lies row at e))
+      go (Err _) k = rw k (refl, eleven_caused n short (with_match row at refl e ((held_meets row at e).0 k)))
 
   end_says : (w : Which) → (WrongKind w kind → ⊥) → (at : Search) → at.place ≡ length text → at.output ≡ 0 → Says w T kind text v (at_end w at)
   end_says overlapping n at p z = (n, short, (p, z))
@@ -135,15 +136,15 @@ module _ (T : Tables) (kind : ℕ) (text : List ℕ) (v : Search) (short : lengt
   walk_says : (w : Which) → (WrongKind w kind → ⊥) → Says w T kind text v (walk_of w T text v)
   walk_says w n = go (found w) refl
     where
-      go : (r : Sought) → found w ≡ r → Says w T kind text v (walk_of w T text v)
-      go (sought.Given row at) e = rw e (output_says w n row at e)
-      go (sought.End at) e =
-          let C = comes_to w (sought.End at) e in
+      go : (r : Result Sought Damage) → found w ≡ r → Says w T kind text v (walk_of w T text v)
+      go (Ok (sought.Given row at)) e = rw e (output_says w n row at e)
+      go (Ok (sought.End at)) e =
+          let C = comes_to w (Ok (sought.End at)) e in
           rw e (end_says w n at (C.1 ∙ taken_left text (from w v) (begin w).place) C.0)
-      go sought.Damage e = rw e (refl, eleven_caused n short (in_walk ((found_meets w).0 e)))
+      go (Err _) e = rw e (refl, eleven_caused n short (in_walk ((found_meets w).0 e)))
 
   -- where it meets damage it answers so: with a match in hand
-  held_damaged : (w : Which) → w ≡ leftmost → (row : Row) (at : Search) → seek_of true T (from w v) (rest text (from w v)) ≡ sought.Given row at
+  held_damaged : (w : Which) → w ≡ leftmost → (row : Row) (at : Search) → seek_of true T (from w v) (rest text (from w v)) ≡ Ok (sought.Given row at)
       → KeepMeets T at (rest text at)
       → walk_of w T text v ≡ refuses 11 v
   held_damaged overlapping q row at e M = absurd (never (cc))
@@ -164,7 +165,7 @@ cleared_same u z = ap (λ (o : ℕ). value_of u.state o u.place u.moves) (sym z)
 
 -- at the text's end with no output to give, the walk comes to the same value
 seek_again : (falling : Bool) (T : Tables) (text : List ℕ) (u : Search) → u.place ≡ length text → u.output ≡ 0
-    → seek_of falling T u (rest text u) ≡ sought.End u
+    → seek_of falling T u (rest text u) ≡ Ok (sought.End u)
 unfolding seek_of
 seek_again falling T text u p z =
     rw (drop_of_length-le text {i = u.place} (omega arith), (ended T u).1 z)

@@ -7,7 +7,8 @@ use Prim.Native.Nat.{ℕ, ◌*◌, ◌≤◌, ◌<◌}
 use native.Mathlib.Omega.{arith}
 use lib.Dec.{eqb, leb, ltb}
 use lib.ListN.{length}
-use Rattle.paper.proofs.Tests.{test, clash, or_left, or_right, and_left, and_right, not_true, eqb_eq, eq_eqb, eqb_ne, leb_le, le_leb, ltb_lt, lt_ltb, ltb_le}
+use Rattle.std.proofs.lemmas.Bool.{or_left, or_right, not-true, eqb-true, eq-eqb, eqb-false, leb-true, le-leb, ltb-true, lt-ltb, ltb-false, and_parts}
+use Rattle.paper.proofs.Tests.{test, clash}
 use Rattle.list.specs.Limits.{last_kind, most_text}
 use Rattle.list.specs.Refusals.{lowest}
 use Rattle.table.specs.Agrees.{Tables, Rooms}
@@ -25,16 +26,16 @@ use Rattle.search.specs.Claims.{WrongKind}
 leftmost_kind : (kind : ℕ) → (other_kind false kind ≡ true) ↔ ((kind ≡ 1) ⊎ (kind ≡ 2))
 leftmost_kind kind = (
   λ e.
-      let some = eqb_ne kind 0 (not_true (eqb kind 0) (and_left (not (eqb kind 0)) (leb kind last_kind) e)) in
-      let most = leb_le kind last_kind (and_right (not (eqb kind 0)) (leb kind last_kind) e) in
-      test (eqb kind 1) (λ h. inl (eqb_eq kind 1 h)) (λ h. let more = eqb_ne kind 1 h in inr (omega arith)),
+      let some = eqb-false kind 0 (not-true (eqb kind 0) (and_parts (not (eqb kind 0)) (leb kind last_kind) e).0) in
+      let most = leb-true kind last_kind (and_parts (not (eqb kind 0)) (leb kind last_kind) e).1 in
+      test (eqb kind 1) (λ h. inl (eqb-true kind 1 h)) (λ h. let more = eqb-false kind 1 h in inr (omega arith)),
   ⊎_elim (λ h. rw h) (λ h. rw h),
 )
 
 other_kind_lem : (w : Which) (kind : ℕ) → (other_kind (is_leftmost w) kind ≡ true) ↔ WrongKind w kind
 other_kind_lem overlapping kind = leftmost_kind kind
 other_kind_lem plain kind = leftmost_kind kind
-other_kind_lem leftmost kind = (eqb_eq kind 0, eq_eqb kind 0)
+other_kind_lem leftmost kind = (eqb-true kind 0, eq-eqb kind 0)
 
 -- ---- damage that shows before the walk
 
@@ -67,26 +68,26 @@ module _ (T : Tables) (kind size : ℕ) (v : Search) where
 
   shown_is : shown ≡ true → ShowsAtFirst T kind size v
   shown_is e =
-      test kinds (λ h. kind_above_two (ltb_lt last_kind kind h))
-      (λ a. test rows (λ h. accepted_above_slots (ltb_lt (length T.outs) T.accepted h))
-      (λ b. test slots (λ h. cells_above_slots (ltb_lt (cell_slots T) T.cells h))
-      (λ c. test states (λ h. state_past_cells (leb_le T.cells v.state.0 h))
-      (λ d. test outputs (λ h. output_past_outputs (ltb_lt T.accepted v.output h))
-      (λ f. test places (λ h. place_past_text (ltb_lt size v.place h))
-      (λ g. test moves (λ h. moves_above_twice_place (ltb_lt (2 * v.place) v.moves h))
+      test kinds (λ h. kind_above_two (ltb-true last_kind kind h))
+      (λ a. test rows (λ h. accepted_above_slots (ltb-true (length T.outs) T.accepted h))
+      (λ b. test slots (λ h. cells_above_slots (ltb-true (cell_slots T) T.cells h))
+      (λ c. test states (λ h. state_past_cells (leb-true T.cells v.state.0 h))
+      (λ d. test outputs (λ h. output_past_outputs (ltb-true T.accepted v.output h))
+      (λ f. test places (λ h. place_past_text (ltb-true size v.place h))
+      (λ g. test moves (λ h. moves_above_twice_place (ltb-true (2 * v.place) v.moves h))
       (λ h. absurd (false≢true (rw (a, b, c, d, f, g, h) at e)))))))))
 
   is_shown : ShowsAtFirst T kind size v → shown ≡ true
-  is_shown (kind_above_two h) = or_left kinds _ (lt_ltb last_kind kind h)
-  is_shown (accepted_above_slots h) = or_right kinds _ (or_left (rows || slots) _ (or_left rows slots (lt_ltb (length T.outs) T.accepted h)))
-  is_shown (cells_above_slots h) = or_right kinds _ (or_left (rows || slots) _ (or_right rows slots (lt_ltb (cell_slots T) T.cells h)))
-  is_shown (state_past_cells h) = or_right kinds _ (or_right (rows || slots) _ (or_left states _ (le_leb T.cells v.state.0 h)))
+  is_shown (kind_above_two h) = or_left kinds _ (lt-ltb last_kind kind h)
+  is_shown (accepted_above_slots h) = or_right kinds _ (or_left (rows || slots) _ (or_left rows slots (lt-ltb (length T.outs) T.accepted h)))
+  is_shown (cells_above_slots h) = or_right kinds _ (or_left (rows || slots) _ (or_right rows slots (lt-ltb (cell_slots T) T.cells h)))
+  is_shown (state_past_cells h) = or_right kinds _ (or_right (rows || slots) _ (or_left states _ (le-leb T.cells v.state.0 h)))
   is_shown (output_past_outputs h) =
-      or_right kinds _ (or_right (rows || slots) _ (or_right states _ (or_left outputs _ (lt_ltb T.accepted v.output h))))
+      or_right kinds _ (or_right (rows || slots) _ (or_right states _ (or_left outputs _ (lt-ltb T.accepted v.output h))))
   is_shown (place_past_text h) =
-      or_right kinds _ (or_right (rows || slots) _ (or_right states _ (or_right outputs _ (or_left places moves (lt_ltb size v.place h)))))
+      or_right kinds _ (or_right (rows || slots) _ (or_right states _ (or_right outputs _ (or_left places moves (lt-ltb size v.place h)))))
   is_shown (moves_above_twice_place h) =
-      or_right kinds _ (or_right (rows || slots) _ (or_right states _ (or_right outputs _ (or_right places moves (lt_ltb (2 * v.place) v.moves h)))))
+      or_right kinds _ (or_right (rows || slots) _ (or_right states _ (or_right outputs _ (or_right places moves (lt-ltb (2 * v.place) v.moves h)))))
 
 -- ---- the call
 
@@ -136,9 +137,9 @@ course w T kind text v =
     test (other_kind (is_leftmost w) kind) (λ a. wrong ((other_kind_lem w kind).0 a) (rw a))
     (λ a.
     let n : WrongKind w kind → ⊥ = λ h. clash ((other_kind_lem w kind).1 h) a in
-    test (ltb most_text (length text)) (λ b. long n (ltb_lt most_text (length text) b) (rw (a, b)))
+    test (ltb most_text (length text)) (λ b. long n (ltb-true most_text (length text) b) (rw (a, b)))
     (λ b.
-    let l = ltb_le most_text (length text) b in
+    let l = ltb-false most_text (length text) b in
     test (shown T kind (length text) v) (λ c. shows n l (shown_is T kind (length text) v c) (rw (a, b, c)))
     (λ c.
     let none : ShowsAtFirst T kind (length text) v → ⊥ = λ h. clash (is_shown T kind (length text) v h) c in

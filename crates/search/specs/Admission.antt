@@ -1,26 +1,18 @@
 -- What is tested first in each call.
-use Rattle.std.specs.Prelude.{Bool, true, false, not, ◌&&◌, ◌||◌, List, [], ◌∷◌, ℕ, ◌*◌, eqb, leb, ltb, length}
+use Rattle.std.specs.Prelude.{Bool, true, false, not, ◌&&◌, ◌||◌, List, [], ◌∷◌, ℕ, ◌*◌, eqb, leb, ltb, length, Result, Ok, Err}
 use Rattle.std.proofs.Math.Option.{Option, none, some}
-use Rattle.paper.specs.Lists.{pick}
 use Rattle.list.specs.Limits.{last_kind, most_text}
 use Rattle.list.specs.Refusals.{Refusal, Told, plainly}
 use Rattle.table.specs.Slots.{column_slots}
 use Rattle.table.specs.Agrees.{Tables}
 use Rattle.search.specs.declared.Search.{Search}
-use Rattle.search.specs.declared.admission.Admission.{Admission}
-use Rattle.search.specs.declared.admission.Admission.TheVariants as admission
-use Rattle.search.specs.declared.admission.Kinds.{Kinds}
-use Rattle.search.specs.declared.admission.Kinds.TheVariants as kinds
+use Rattle.search.specs.declared.Refusal as declared
 use Rattle.search.specs.Values.{number}
 
 -- the kind is one that another search is for: a leftmost kind for the standard searches, Standard for leftmost search
 abbrev pub other_kind : Bool → ℕ → Bool
 other_kind true kind = eqb kind 0
 other_kind false kind = not (eqb kind 0) && leb kind last_kind
-
--- whom tables of a kind are for
-abbrev pub kinds_of : Bool → ℕ → Kinds
-kinds_of leftmost kind = pick (ltb last_kind kind) kinds.Unknown (pick (other_kind leftmost kind) kinds.Others kinds.These)
 
 -- the slots of the cells
 abbrev pub cell_slots : Tables → ℕ
@@ -44,6 +36,6 @@ at_first leftmost T kind size v =
     ∷ []
 
 -- what an admission tells
-abbrev pub told : Admission → Option Told
-told admission.Granted = none
-told (admission.Refused why) = some (record { number = number why; index = 0 })
+abbrev pub told : Result (Unit {0}) declared.Refusal → Option Told
+told (Ok _) = none
+told (Err why) = some (record { number = number why; index = 0 })

@@ -1,16 +1,13 @@
 -- Document 01's list of damage, each line a named case: what the kind, the counts and the search value show, and what the walk meets.
-use Rattle.std.specs.Prelude.{◌≡◌, Bool, true, false, List, ◌∷◌, ℕ, ◌-◌, ◌*◌, ◌≤◌, ◌<◌, length, get_or}
+use Rattle.std.specs.Prelude.{◌≡◌, Bool, true, false, List, ◌∷◌, ℕ, ◌-◌, ◌*◌, ◌≤◌, ◌<◌, length, get_or, None, Ok}
 use Rattle.std.specs.Int.Bits.{bit_xor}
 use Rattle.zeros.specs.Rows.{field}
 use Rattle.list.specs.Limits.{last_kind}
 use Rattle.table.specs.Agrees.{Tables, probe_in, link_in}
 use Rattle.table.specs.declared.CellId.{CellId}
-use Rattle.table.specs.declared.Found.TheVariants as found
-use Rattle.table.specs.declared.Linked.TheVariants as linked
 use Rattle.table.specs.declared.Row.{Row}
-use Rattle.table.specs.declared.Shown.TheVariants as shown
+use Rattle.table.specs.Readers.{damage}
 use Rattle.search.specs.declared.Search.{Search}
-use Rattle.search.specs.declared.walk.Moved.TheVariants as moved
 use Rattle.search.specs.declared.seek.Sought.TheVariants as sought
 use Rattle.search.specs.Values.{Which, leftmost, root}
 use Rattle.search.specs.Walk.{falls_at, step_of}
@@ -32,14 +29,14 @@ pub data HuntMeets (falling : Bool) (T : Tables) (c : ℕ) : CellId → Type 0 w
   -- the base xor the byte is at or past the cells
   child_past_cells : (s : CellId) → (get_or T.base s.0 0 ≡ 0 → ⊥) → T.cells ≤ bit_xor (get_or T.base s.0 0) c → HuntMeets falling T c s
   -- the state has no such child, and its failure target is at or past the cells
-  target_past_cells : (s : CellId) → probe_in T s.0 c ≡ found.Nothing → (s.0 ≡ root → ⊥) → T.cells ≤ get_or T.link s.0 0
+  target_past_cells : (s : CellId) → probe_in T s.0 c ≡ Ok None → (s.0 ≡ root → ⊥) → T.cells ≤ get_or T.link s.0 0
       → HuntMeets falling T c s
   -- or the depth of its failure target isn't smaller
-  target_not_smaller : (s : CellId) → probe_in T s.0 c ≡ found.Nothing → (s.0 ≡ root → ⊥)
+  target_not_smaller : (s : CellId) → probe_in T s.0 c ≡ Ok None → (s.0 ≡ root → ⊥)
       → get_or T.depth s.0 0 ≤ get_or T.depth (get_or T.link s.0 0) 0
       → HuntMeets falling T c s
   -- or the hunt goes on from its target, and meets damage there
-  at_target : (s target : CellId) → probe_in T s.0 c ≡ found.Nothing → (s.0 ≡ root → ⊥) → link_in T s.0 ≡ linked.To target
+  at_target : (s target : CellId) → probe_in T s.0 c ≡ Ok None → (s.0 ≡ root → ⊥) → link_in T s.0 ≡ Ok target
       → falls_at falling target ≡ false
       → HuntMeets falling T c target
       → HuntMeets falling T c s
@@ -58,7 +55,7 @@ pub data WalkMeets (falling : Bool) (T : Tables) : Search → List ℕ → Type 
   -- there is none, and the next byte's hunt meets damage
   in_hunt : (v : Search) (c : ℕ) (bytes : List ℕ) → v.output ≡ 0 → HuntMeets falling T c v.state → WalkMeets falling T v (c ∷ bytes)
   -- or the walk goes on from the value after that byte, and meets damage there
-  after_byte : (v w : Search) (c : ℕ) (bytes : List ℕ) → v.output ≡ 0 → step_of falling T v c ≡ moved.On w → WalkMeets falling T w bytes
+  after_byte : (v w : Search) (c : ℕ) (bytes : List ℕ) → v.output ≡ 0 → step_of falling T v c ≡ Ok w → WalkMeets falling T w bytes
       → WalkMeets falling T v (c ∷ bytes)
 
 -- what a leftmost walk meets while it has a match in hand
@@ -66,12 +63,12 @@ pub data KeepMeets (T : Tables) : Search → List ℕ → Type 0 where
   -- the next byte's hunt meets damage
   keep_in_hunt : (v : Search) (c : ℕ) (bytes : List ℕ) → HuntMeets true T c v.state → KeepMeets T v (c ∷ bytes)
   -- the output that would be kept is broken
-  keep_at_output : (v w : Search) (c : ℕ) (bytes : List ℕ) → step_of true T v c ≡ moved.On w → (w.state.0 ≡ root → ⊥)
+  keep_at_output : (v w : Search) (c : ℕ) (bytes : List ℕ) → step_of true T v c ≡ Ok w → (w.state.0 ≡ root → ⊥)
       → OutputBroken T w.output w.place
       → KeepMeets T v (c ∷ bytes)
   -- or the walk goes on from the value after that byte, and meets damage there
-  keep_after_byte : (v w : Search) (c : ℕ) (bytes : List ℕ) → step_of true T v c ≡ moved.On w → (w.state.0 ≡ root → ⊥)
-      → (shown_at T w ≡ shown.Damage → ⊥)
+  keep_after_byte : (v w : Search) (c : ℕ) (bytes : List ℕ) → step_of true T v c ≡ Ok w → (w.state.0 ≡ root → ⊥)
+      → (shown_at T w ≡ damage → ⊥)
       → KeepMeets T w bytes
       → KeepMeets T v (c ∷ bytes)
 
@@ -79,6 +76,6 @@ pub data KeepMeets (T : Tables) : Search → List ℕ → Type 0 where
 pub data Damaged (w : Which) (T : Tables) (kind : ℕ) (text : List ℕ) (v : Search) : Type 0 where
   shown_at_first : ShowsAtFirst T kind (length text) v → Damaged w T kind text v
   in_walk : WalkMeets (is_leftmost w) T (from w v) (rest text (from w v)) → Damaged w T kind text v
-  with_match : (row : Row) (at : Search) → w ≡ leftmost → seek_of true T (from w v) (rest text (from w v)) ≡ sought.Given row at
+  with_match : (row : Row) (at : Search) → w ≡ leftmost → seek_of true T (from w v) (rest text (from w v)) ≡ Ok (sought.Given row at)
       → KeepMeets T at (rest text at)
       → Damaged w T kind text v

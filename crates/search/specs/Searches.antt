@@ -1,61 +1,53 @@
 -- What each search answers, on any tables, any value and any text.
-use Rattle.std.specs.Prelude.{Bool, true, false, List, [], ◌∷◌, ℕ, eqb, length, drop}
-use Rattle.std.proofs.Math.Option.{Option, none, some}
+use Rattle.std.specs.Prelude.{Bool, true, false, List, [], ◌∷◌, ℕ, eqb, length, drop, Option, Result, Ok, Err}
+use Rattle.std.proofs.Math.Option.{Option as Maybe, none, some}
 use Rattle.paper.specs.Lists.{pick}
 use Rattle.list.specs.Refusals.{Told, lowest}
 use Rattle.table.specs.Agrees.{Tables, output_in}
 use Rattle.table.specs.declared.Row.{Row}
-use Rattle.table.specs.declared.Shown.{Shown}
-use Rattle.table.specs.declared.Shown.TheVariants as shown
+use Rattle.table.specs.declared.Damage.{Damage}
+use Rattle.table.specs.Readers.{damage}
 use Rattle.search.specs.declared.Search.{Search}
 use Rattle.search.specs.declared.Match.{Match}
 use Rattle.search.specs.declared.seek.Sought.{Sought}
 use Rattle.search.specs.declared.seek.Sought.TheVariants as sought
-use Rattle.search.specs.declared.keep.Kept.{Kept}
-use Rattle.search.specs.declared.keep.Kept.TheVariants as kept
 use Rattle.search.specs.Values.{Which, overlapping, plain, leftmost, root, cell, value_of, match_of, Outcome, gives, ends, refuses}
-use Rattle.search.specs.Walk.{on_moved, step_of}
+use Rattle.search.specs.Walk.{on_given, on_sound, step_of}
 use Rattle.search.specs.Admission.{at_first}
 
 -- ---- the walk over the bytes that are left
 
--- what stands at an output place: an output, nothing, or damage
-abbrev pub on_shown : {A : Type 0} → Shown → (Row → A) → A → A → A
-on_shown (shown.Given row) f nothing damage = f row
-on_shown shown.Nothing f nothing damage = nothing
-on_shown shown.Damage f nothing damage = damage
-
 -- what stands at the output place of a value
-abbrev pub shown_at : Tables → Search → Shown
+abbrev pub shown_at : Tables → Search → Result (Option Row) Damage
 shown_at T v = output_in T v.output v.place
 
 -- up to the first output, which may be the one that the value has still to give; `falling` is for the leftmost walk
-unfoldable pub seek_of : Bool → Tables → Search → List ℕ → Sought
-seek_of falling T v [] = on_shown (shown_at T v) (λ row. sought.Given row v) (sought.End v) sought.Damage
+unfoldable pub seek_of : Bool → Tables → Search → List ℕ → Result Sought Damage
+seek_of falling T v [] = on_given (shown_at T v) (λ row. Ok (sought.Given row v)) (Ok (sought.End v)) damage
 seek_of falling T v (c ∷ bytes) =
-    on_shown (shown_at T v) (λ row. sought.Given row v) (on_moved (step_of falling T v c) (λ w. seek_of falling T w bytes) sought.Damage) sought.Damage
+    on_given (shown_at T v) (λ row. Ok (sought.Given row v)) (on_sound (step_of falling T v c) (λ w. seek_of falling T w bytes) damage) damage
 
 -- from a first match on, the match that is kept last before a byte ends at root or the text ends, and where the walk stops: each state's first output is kept
-unfoldable pub keep_of : Tables → Match → Search → List ℕ → Kept
-keep_of T m v [] = kept.Given m v
+unfoldable pub keep_of : Tables → Match → Search → List ℕ → Result (Match × Search) Damage
+keep_of T m v [] = Ok (m, v)
 keep_of T m v (c ∷ bytes) =
-    on_moved (step_of true T v c)
-    (λ w. pick (eqb w.state.0 root) (kept.Given m w)
-    (on_shown (shown_at T w) (λ row. keep_of T (match_of row w.place) w bytes) (keep_of T m w bytes) kept.Damage))
-    kept.Damage
+    on_sound (step_of true T v c)
+    (λ w. pick (eqb w.state.0 root) (Ok (m, w))
+    (on_given (shown_at T w) (λ row. keep_of T (match_of row w.place) w bytes) (keep_of T m w bytes) damage))
+    damage
 
 -- ---- the answer of a call, once it is admitted
 
 -- an output and the value there, the end and the value there, or damage
-abbrev pub on_sought : {A : Type 0} → Sought → (Row → Search → A) → (Search → A) → A → A
-on_sought (sought.Given row at) f end damage = f row at
-on_sought (sought.End at) f end damage = end at
-on_sought sought.Damage f end damage = damage
+abbrev pub on_sought : {A : Type 0} → Result Sought Damage → (Row → Search → A) → (Search → A) → A → A
+on_sought (Ok (sought.Given row at)) f end broken = f row at
+on_sought (Ok (sought.End at)) f end broken = end at
+on_sought (Err _) f end broken = broken
 
 -- a match and where the walk stopped, or damage
-abbrev pub on_kept : {A : Type 0} → Kept → (Match → Search → A) → A → A
-on_kept (kept.Given m stop) f damage = f m stop
-on_kept kept.Damage f damage = damage
+abbrev pub on_kept : {A : Type 0} → Result (Match × Search) Damage → (Match → Search → A) → A → A
+on_kept (Ok p) f broken = f p.0 p.1
+on_kept (Err _) f broken = broken
 
 -- the bytes of a text that a value has still to take
 abbrev pub rest : List ℕ → Search → List ℕ
@@ -109,7 +101,7 @@ walk_of w T text v =
 -- ---- the answer
 
 -- a refusal that shows before the walk, or what the walk answers
-abbrev pub unless : Option Told → Search → Outcome → Outcome
+abbrev pub unless : Maybe Told → Search → Outcome → Outcome
 unless none v walked = walked
 unless (some t) v walked = refuses t.number v
 

@@ -1,29 +1,30 @@
-// The three searches over lent tables. A search value says what a search has come to; each call takes it with the tables, what the build said of
-// them, and the text, and hands back the next one with a match, the end, or a refusal. A call asks nothing: on any tables, any value and any
-// text it answers. It writes nothing, and it reads the tables through their readers alone.
+// The three searches over lent tables. A search value says what a search has come to; each call takes it with the tables and the text, and hands
+// back the next one with a match, the end, or a refusal. A call asks nothing: on any tables, any value and any text it answers. It writes nothing,
+// and it reads the tables through their readers alone.
 #![tactic(auto)]
 
-ghost use Rattle.std.specs.Prelude.{◌≡◌, ◌≤◌};
+ghost use Rattle.std.specs.Prelude.{◌≡◌, ◌≤◌, Bool};
 ghost use Rattle.table.specs.Agrees.{lent};
-ghost use Rattle.search.specs.Values.{overlapping, plain, leftmost, value_of, begun, match_of, answer};
-ghost use Rattle.search.specs.Searches.{next_of};
+ghost use Rattle.search.specs.Admission.{other_kind};
+ghost use Rattle.search.specs.Values.{Which, overlapping, plain, leftmost, value_of, begun, match_of, answer};
+ghost use Rattle.search.specs.Searches.{is_leftmost, cleared, next_of};
 
-use table::{CellId, Counts, Depth, Row};
+use table::{CellId, Row, Tables};
 
 mod admission;
 mod keep;
 mod seek;
 mod walk;
 
-use admission::{Admission, admit};
-use keep::{Kept, keep};
+use admission::{admit, is_other};
+use keep::keep;
 use seek::{Sought, seek};
 
 // The state that every walk begins with.
 const ROOT: u32 = 0;
 
 // What a search has come to. Any value may be handed in.
-#[derive(Clone, Copy)]
+#[derive(Clone, Copy, Debug, PartialEq, Eq)]
 pub struct Search {
     pub state: CellId,
     // The place of the output that is given next, 0 for none.
@@ -34,14 +35,14 @@ pub struct Search {
     pub moves: u64,
 }
 
-#[derive(Clone, Copy)]
+#[derive(Clone, Copy, Debug, PartialEq, Eq)]
 pub struct Match {
     pub start: usize,
     pub end: usize,
     pub value: u32,
 }
 
-#[derive(Clone, Copy)]
+#[derive(Clone, Copy, Debug, PartialEq, Eq)]
 pub enum Refusal {
     // 9: the tables are of a kind that another search is for.
     WrongKind,
@@ -51,8 +52,8 @@ pub enum Refusal {
     Damage,
 }
 
-// A refusal hands back the value as it came in.
-#[derive(Clone, Copy)]
+// A refusal hands back the value as it came in. No Result: document 01 names the form, an enum of match, end or refusal with the next value.
+#[derive(Clone, Copy, Debug, PartialEq, Eq)]
 pub enum Answer {
     Match(Match, Search),
     End(Search),
@@ -96,138 +97,124 @@ impl Search {
         }
     }
 
-    // Overlapping search: after each byte, the whole output chain.
-    pub fn next_overlapping(
-        self,
-        base: &[u32],
-        link: &[u32],
-        output: &[u32],
-        check: &[u8],
-        depth: &[Depth],
-        outs: &[[u32; 3]],
-        counts: Counts,
-        text: &[u8],
-    ) -> Answer
-        ensures { answer result ≡ next_of overlapping (lent base.now link.now output.now check.now depth.now
-            outs.now counts) counts.kind text.now self }
+    // The value without the output that it has still to give.
+    fn cleared(self) -> Search
+        ensures { result ≡ cleared self }
     {
-        match admit(
-            false, base, link, output, check, depth, outs, counts, text, self,
-        ) {
-            Admission::Refused(why) => Answer::Refused(why, self),
-            Admission::Granted => {
-                match seek(
-                    false, base, link, output, check, depth, outs, counts, text, self,
-                ) {
-                    Sought::Given(row, at) => Answer::Match(
-                        matched(row, at.place),
-                        moved(at.state, row.next, at.place, at.moves),
-                    ),
-                    Sought::End(at) => Answer::End(at),
-                    Sought::Damage => Answer::Refused(Refusal::Damage, self),
-                }
-            }
+        moved(self.state, 0, self.place, self.moves)
+    }
+
+    // Overlapping search: after each byte, the whole output chain.
+    pub fn next_overlapping(self, tables: &Tables<'_>, text: &[u8]) -> Answer
+        ensures { answer result ≡ next_of overlapping (lent tables.now) tables.now.counts.kind text.now self }
+    {
+        if let Err(why) = admit(false, tables, text.len(), self) {
+            return Answer::Refused(why, self);
+        }
+        let Ok(sought) = seek(false, tables, text, self) else {
+            return Answer::Refused(Refusal::Damage, self);
+        };
+        match sought {
+            Sought::Given(row, at) => Answer::Match(
+                matched(row, at.place),
+                moved(at.state, row.next, at.place, at.moves),
+            ),
+            Sought::End(at) => Answer::End(at),
         }
     }
 
     // Plain search: the first output of the first state that has one; then the walk begins again at root.
-    pub fn next_plain(
-        self,
-        base: &[u32],
-        link: &[u32],
-        output: &[u32],
-        check: &[u8],
-        depth: &[Depth],
-        outs: &[[u32; 3]],
-        counts: Counts,
-        text: &[u8],
-    ) -> Answer
-        ensures { answer result ≡ next_of plain (lent base.now link.now output.now check.now depth.now
-            outs.now counts) counts.kind text.now self }
+    pub fn next_plain(self, tables: &Tables<'_>, text: &[u8]) -> Answer
+        ensures { answer result ≡ next_of plain (lent tables.now) tables.now.counts.kind text.now self }
     {
-        match admit(
-            false, base, link, output, check, depth, outs, counts, text, self,
-        ) {
-            Admission::Refused(why) => Answer::Refused(why, self),
-            Admission::Granted => {
-                match seek(
-                    false,
-                    base,
-                    link,
-                    output,
-                    check,
-                    depth,
-                    outs,
-                    counts,
-                    text,
-                    moved(self.state, 0, self.place, self.moves),
-                ) {
-                    Sought::Given(row, at) => Answer::Match(
-                        matched(row, at.place),
-                        moved(CellId(ROOT), 0, at.place, at.moves),
-                    ),
-                    Sought::End(at) => Answer::End(at),
-                    Sought::Damage => Answer::Refused(Refusal::Damage, self),
-                }
-            }
+        if let Err(why) = admit(false, tables, text.len(), self) {
+            return Answer::Refused(why, self);
+        }
+        let from = self.cleared();
+        let Ok(sought) = seek(false, tables, text, from) else {
+            return Answer::Refused(Refusal::Damage, self);
+        };
+        match sought {
+            Sought::Given(row, at) => Answer::Match(
+                matched(row, at.place),
+                moved(CellId(ROOT), 0, at.place, at.moves),
+            ),
+            Sought::End(at) => Answer::End(at),
         }
     }
 
     // Leftmost search: the match that is kept last before a byte ends at root or the text ends. The walk goes on from the match's end.
-    pub fn next_leftmost(
-        self,
-        base: &[u32],
-        link: &[u32],
-        output: &[u32],
-        check: &[u8],
-        depth: &[Depth],
-        outs: &[[u32; 3]],
-        counts: Counts,
-        text: &[u8],
-    ) -> Answer
-        ensures { answer result ≡ next_of leftmost (lent base.now link.now output.now check.now depth.now
-            outs.now counts) counts.kind text.now self }
+    pub fn next_leftmost(self, tables: &Tables<'_>, text: &[u8]) -> Answer
+        ensures { answer result ≡ next_of leftmost (lent tables.now) tables.now.counts.kind text.now self }
     {
-        match admit(
-            true, base, link, output, check, depth, outs, counts, text, self,
-        ) {
-            Admission::Refused(why) => Answer::Refused(why, self),
-            Admission::Granted => {
-                match seek(
-                    true,
-                    base,
-                    link,
-                    output,
-                    check,
-                    depth,
-                    outs,
-                    counts,
-                    text,
-                    moved(self.state, 0, self.place, self.moves),
-                ) {
-                    Sought::Given(row, at) => {
-                        match keep(
-                            base,
-                            link,
-                            output,
-                            check,
-                            depth,
-                            outs,
-                            counts,
-                            text,
-                            matched(row, at.place),
-                            at,
-                        ) {
-                            Kept::Given(kept, _) => {
-                                Answer::Match(kept, moved(CellId(ROOT), 0, kept.end, 0))
-                            }
-                            Kept::Damage => Answer::Refused(Refusal::Damage, self),
-                        }
-                    }
-                    Sought::End(at) => Answer::End(moved(CellId(ROOT), 0, at.place, 0)),
-                    Sought::Damage => Answer::Refused(Refusal::Damage, self),
-                }
-            }
+        if let Err(why) = admit(true, tables, text.len(), self) {
+            return Answer::Refused(why, self);
         }
+        let from = self.cleared();
+        let Ok(sought) = seek(true, tables, text, from) else {
+            return Answer::Refused(Refusal::Damage, self);
+        };
+        match sought {
+            Sought::Given(row, at) => match keep(tables, text, matched(row, at.place), at) {
+                Ok((kept, _)) => Answer::Match(kept, moved(CellId(ROOT), 0, kept.end, 0)),
+                Err(_) => Answer::Refused(Refusal::Damage, self),
+            },
+            Sought::End(at) => Answer::End(moved(CellId(ROOT), 0, at.place, 0)),
+        }
+    }
+}
+
+// A search as a type, for code that serves all three.
+pub trait Searching {
+    ghost which: { Which };
+
+    // The next answer from a value on.
+    fn next(value: Search, tables: &Tables<'_>, text: &[u8]) -> Answer
+        ensures { answer result ≡ next_of which (lent tables.now) tables.now.counts.kind text.now value };
+
+    // Whether tables of this kind are for another search.
+    fn is_other(kind: u32) -> bool
+        ensures { result ≡ other_kind (is_leftmost which) kind };
+}
+
+pub struct Overlapping;
+
+pub struct Plain;
+
+pub struct Leftmost;
+
+impl Searching for Overlapping {
+    ghost which = { overlapping };
+
+    fn next(value: Search, tables: &Tables<'_>, text: &[u8]) -> Answer {
+        value.next_overlapping(tables, text)
+    }
+
+    fn is_other(kind: u32) -> bool {
+        is_other(false, kind)
+    }
+}
+
+impl Searching for Plain {
+    ghost which = { plain };
+
+    fn next(value: Search, tables: &Tables<'_>, text: &[u8]) -> Answer {
+        value.next_plain(tables, text)
+    }
+
+    fn is_other(kind: u32) -> bool {
+        is_other(false, kind)
+    }
+}
+
+impl Searching for Leftmost {
+    ghost which = { leftmost };
+
+    fn next(value: Search, tables: &Tables<'_>, text: &[u8]) -> Answer {
+        value.next_leftmost(tables, text)
+    }
+
+    fn is_other(kind: u32) -> bool {
+        is_other(true, kind)
     }
 }

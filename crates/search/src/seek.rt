@@ -2,69 +2,42 @@
 ghost use Rattle.std.specs.Prelude.{◌≡◌, ◌≤◌, length};
 ghost use Rattle.list.specs.Limits.{most_text};
 ghost use Rattle.table.specs.Agrees.{lent};
-ghost use Rattle.search.specs.Bounds.{most_at};
+ghost use Rattle.search.specs.Bounds.{most_at, Arrives};
 ghost use Rattle.search.specs.Searches.{rest, seek_of};
 
 use crate::Search;
-use crate::walk::{Moved, step};
-use table::{Counts, Depth, Row, Shown};
+use crate::walk::{shallow, step};
+use table::{Damage, Row, Tables};
 
-#[derive(Clone, Copy)]
+// What the walk comes to, with the value there. An Option would do for the output, but each way has the value too.
+#[derive(Clone, Copy, Debug, PartialEq, Eq)]
 pub(crate) enum Sought {
     Given(Row, Search),
     End(Search),
-    Damage,
 }
 
-// From a value on: the first output that stands at the value's output place, or at that of a value after more bytes.
+// From a value on: the first output that stands at the value's output place, or at that of a value after more bytes. The place is no count of the
+// loop: it is the value's, which a caller gets back.
+#[inline(always)]
 pub(crate) fn seek(
     leftmost: bool,
-    base: &[u32],
-    link: &[u32],
-    output: &[u32],
-    check: &[u8],
-    depth: &[Depth],
-    outs: &[[u32; 3]],
-    counts: Counts,
+    tables: &Tables<'_>,
     text: &[u8],
     from: Search,
-) -> Sought
+) -> Result<Sought, Damage>
     requires { (from.place ≤ length text.now) × (length text.now ≤ most_text) × (from.moves ≤ most_at from.place) }
-    ensures { result ≡ seek_of leftmost (lent base.now link.now output.now check.now depth.now
-        outs.now counts) from (rest text.now from) }
+    ensures walked { result ≡ seek_of leftmost (lent tables.now) from (rest text.now from) }
+    ensures arrives { Arrives text.now result }
 {
+    shallow(tables.depth);
     let mut at = from;
     loop {
-        match table::output(outs, counts.accepted, at.output, at.place) {
-            Shown::Given(row) => {
-                return Sought::Given(row, at);
-            }
-            Shown::Damage => {
-                return Sought::Damage;
-            }
-            Shown::Nothing => {
-                if text.len() <= at.place {
-                    return Sought::End(at);
-                }
-                match step(
-                    leftmost,
-                    base,
-                    link,
-                    output,
-                    check,
-                    depth,
-                    counts.cells,
-                    text,
-                    at,
-                ) {
-                    Moved::Damage => {
-                        return Sought::Damage;
-                    }
-                    Moved::On(next) => {
-                        at = next;
-                    }
-                }
-            }
+        if let Some(row) = tables.output(at.output, at.place)? {
+            return Ok(Sought::Given(row, at));
         }
+        if text.len() <= at.place {
+            return Ok(Sought::End(at));
+        }
+        at = step(leftmost, tables, text, at)?;
     }
 }

@@ -5,7 +5,7 @@ use mathlib.Core.List.{List}
 use Prim.Native.Nat.{ℕ, zero, suc, ◌≤◌, ◌<◌}
 use native.Mathlib.Omega.{arith}
 use lib.ListN.{length}
-use Rattle.paper.proofs.Tests.{lt_ltb, le_ltb}
+use Rattle.std.proofs.lemmas.Bool.{lt-ltb, le-ltb}
 use Rattle.list.specs.Limits.{most_text}
 use Rattle.list.specs.Refusals.{lowest}
 use Rattle.table.specs.Agrees.{Tables}
@@ -20,17 +20,17 @@ use Rattle.sheet.specs.Sheet.{Stop, barred, at_once, refused, full, Load, stoppi
 -- ---- an empty sheet
 
 module _ (leftmost : Bool) (kind size : ℕ) where
-  pub other_first : (b : Bool) → b ≡ other_kind leftmost kind → b ≡ true → refused 9 ≡ at_once (lowest (barred leftmost kind size))
+  pub other_first : other_kind leftmost kind ≡ true → refused 9 ≡ at_once (lowest (barred leftmost kind size))
   unfolding lowest
-  other_first b is e = rw (sym is ∙ e)
+  other_first e = rw e
 
-  pub then_long : (b : Bool) → b ≡ other_kind leftmost kind → b ≡ false → most_text < size → refused 10 ≡ at_once (lowest (barred leftmost kind size))
+  pub then_long : other_kind leftmost kind ≡ false → most_text < size → refused 10 ≡ at_once (lowest (barred leftmost kind size))
   unfolding lowest
-  then_long b is e h = rw (sym is ∙ e, lt_ltb most_text size h)
+  then_long e h = rw (e, lt-ltb most_text size h)
 
-  pub else_full : (b : Bool) → b ≡ other_kind leftmost kind → b ≡ false → size ≤ most_text → full ≡ at_once (lowest (barred leftmost kind size))
+  pub else_full : other_kind leftmost kind ≡ false → size ≤ most_text → full ≡ at_once (lowest (barred leftmost kind size))
   unfolding lowest
-  else_full b is e h = rw (sym is ∙ e, le_ltb most_text size h)
+  else_full e h = rw (e, le-ltb most_text size h)
 
 -- ---- the whole call
 

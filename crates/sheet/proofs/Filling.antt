@@ -1,35 +1,17 @@
 -- A sheet that is being filled: what the answers so far and those to come have to do with the whole load. Over any search.
 use mathlib.Core.Path.{◌≡◌, refl, sym, ap, ap₂, ◌∙◌}
 use mathlib.Core.List.{List, [], ◌∷◌, ◌++◌, append-nil}
-use Prim.Native.Nat.{ℕ, zero, suc, ◌-◌, ◌≤◌, ◌<◌}
-use native.Mathlib.Nat.{not-suc-le-zero, le_of_suc-le-suc}
+use Prim.Native.Nat.{ℕ, suc, ◌-◌, ◌≤◌, ◌<◌}
 use native.Mathlib.Omega.{arith}
 use lib.ListN.{length, drop, set, get_or}
+use lib.Seq.{drop-cons, set-append_seam}
+use Rattle.std.proofs.lemmas.List.{append_assoc, length-append}
 use Rattle.search.specs.declared.Search.{Search}
 use Rattle.search.specs.declared.Match.{Match}
 use Rattle.search.specs.Values.{Outcome, gives, ends, refuses}
 use Rattle.sheet.specs.declared.Filled.{Filled}
 use Rattle.sheet.specs.Claims.{after}
 use Rattle.sheet.specs.Sheet.{record_of, Stop, full, ended, refused, Load, stopping, with_record, on_answer, load_of, written, stop_of, Tells}
-
--- ---- rows
-
-append_assoc : {A : Type 0} (xs ys zs : List A) → (xs ++ ys) ++ zs ≡ xs ++ (ys ++ zs)
-append_assoc [] ys zs = refl
-append_assoc (x ∷ xs) ys zs = ap (λ t. x ∷ t) (append_assoc xs ys zs)
-
-length_snoc : {A : Type 0} (xs : List A) (x : A) → length (xs ++ x ∷ []) ≡ suc (length xs)
-length_snoc [] x = refl
-length_snoc (y ∷ xs) x = ap suc (length_snoc xs x)
-
-drop_next : {A : Type 0} (i : ℕ) (l : List A) (d : A) → i < length l → drop i l ≡ get_or l i d ∷ drop (suc i) l
-drop_next i [] d h = absurd (not-suc-le-zero h)
-drop_next zero (x ∷ l) d h = refl
-drop_next (suc i) (x ∷ l) d h = drop_next i l d (le_of_suc-le-suc h)
-
-set_next : {A : Type 0} (done tail : List A) (y x : A) → set (done ++ y ∷ tail) (length done) x ≡ (done ++ x ∷ []) ++ tail
-set_next [] tail y x = refl
-set_next (z ∷ done) tail y x = ap (λ t. z ∷ t) (set_next done tail y x)
 
 -- ---- loads
 
@@ -69,7 +51,9 @@ module _ (next : Search → Outcome) where
   set_more : (rows₀ rows done : List (List ℕ)) (i : ℕ) (x : List ℕ) → length done ≡ i → i < length rows₀ → rows ≡ done ++ drop i rows₀
       → set rows i x ≡ (done ++ x ∷ []) ++ drop (suc i) rows₀
   set_more rows₀ rows done i x n h e =
-      ap₂ (λ (r : List (List ℕ)) (j : ℕ). set r j x) (e ∙ ap (λ t. done ++ t) (drop_next i rows₀ [] h)) (sym n) ∙ set_next done (drop (suc i) rows₀) (get_or rows₀ i []) x
+      ap₂ (λ (r : List (List ℕ)) (j : ℕ). set r j x) (e ∙ ap (λ t. done ++ t) (drop-cons rows₀ i [] h)) (sym n)
+      ∙ set-append_seam done (get_or rows₀ i []) (drop (suc i) rows₀) x
+      ∙ sym (append_assoc done (x ∷ []) (drop (suc i) rows₀))
 
   -- a match is put into the next slot
   pub one_more : (rows₀ : List (List ℕ)) (v₀ : Search) (rows : List (List ℕ)) (v : Search) (i : ℕ) → Filling rows₀ v₀ rows v i → i < length rows₀
@@ -82,7 +66,7 @@ module _ (next : Search → Outcome) where
       let left : length rows₀ - i ≡ suc (length rows₀ - i') = omega arith in
       record {
         done = F.done ++ x ∷ [];
-        counted = length_snoc F.done x ∙ ap suc F.counted ∙ sym e;
+        counted = omega (arith, length-append F.done (x ∷ []), F.counted, e);
         inside = omega arith;
         as_long = long;
         rows_are = put ∙ set_more rows₀ rows F.done i x F.counted h F.rows_are ∙ ap (λ (j : ℕ). (F.done ++ x ∷ []) ++ drop j rows₀) (sym e);

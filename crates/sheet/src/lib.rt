@@ -2,19 +2,18 @@
 // the value handed back goes on from the last record. A record is start, end and value.
 #![tactic(auto)]
 
-ghost use Rattle.std.specs.Prelude.{◌≡◌, ◌<◌, length, set};
+ghost use Rattle.std.specs.Prelude.{◌≡◌, length};
 ghost use Rattle.list.specs.Refusals.{lowest};
 ghost use Rattle.table.specs.Agrees.{lent};
-ghost use Rattle.search.specs.Values.{overlapping, plain, leftmost};
-ghost use Rattle.search.specs.Admission.{other_kind};
+ghost use Rattle.search.specs.Searches.{is_leftmost};
 ghost use Rattle.sheet.specs.Sheet.{record_of, barred, at_once, sheet_of, written, stop_of, Tells};
 
-use list::limits::{LAST_KIND, MOST_TEXT};
-use search::{Answer, Match, Refusal, Search};
-use table::{Counts, Depth};
+use list::limits::MOST_TEXT;
+use search::{Answer, Match, Refusal, Search, Searching};
+use table::Tables;
 
-// Why a call stopped.
-#[derive(Clone, Copy)]
+// Why a call stopped. A full sheet and the end are as good as a refusal is: each comes with records and a value, so none is an error here.
+#[derive(Clone, Copy, Debug, PartialEq, Eq)]
 pub enum Stop {
     // Every slot is written. No further match was looked for.
     Full,
@@ -25,44 +24,25 @@ pub enum Stop {
 }
 
 // Why a call stopped, how many records it wrote, and the value to go on with.
-#[derive(Clone, Copy)]
+#[derive(Clone, Copy, Debug, PartialEq, Eq)]
 pub struct Filled {
     pub stop: Stop,
     pub count: usize,
     pub value: Search,
 }
 
-// A call's answer. It is made here alone.
-fn stopped(stop: Stop, count: usize, value: Search) -> Filled
-    ensures { (result.stop ≡ stop) × (result.count ≡ count) × (result.value ≡ value) }
+// A match as a record.
+fn record(found: Match) -> [usize; 3]
+    ensures { result ≡ record_of found }
 {
-    Filled { stop, count, value }
-}
-
-// Writes a match into a slot.
-fn put(sheet: &mut [[usize; 3]], slot: usize, found: Match)
-    requires { slot < length sheet.old }
-    ensures { sheet.new ≡ set sheet.old slot (record_of found) }
-{
-    sheet[slot] = [found.start, found.end, found.value as usize];
-}
-
-// Whether tables of this kind are for another search than the leftmost one, or than the standard ones.
-fn is_other(leftmost: bool, kind: u32) -> bool
-    ensures { result ≡ other_kind leftmost kind }
-{
-    if leftmost {
-        kind == 0
-    } else {
-        (kind != 0) & (kind <= LAST_KIND)
-    }
+    [found.start, found.end, found.value as usize]
 }
 
 // How a call with an empty sheet stops.
-fn at_once(leftmost: bool, kind: u32, length: usize) -> Stop
-    ensures { stop_of result ≡ at_once (lowest (barred leftmost kind length)) }
+fn at_once<S: Searching>(kind: u32, length: usize) -> Stop
+    ensures { stop_of result ≡ at_once (lowest (barred (is_leftmost S.which) kind length)) }
 {
-    if is_other(leftmost, kind) {
+    if S::is_other(kind) {
         return Stop::Refused(Refusal::WrongKind);
     }
     if MOST_TEXT < length {
@@ -71,113 +51,51 @@ fn at_once(leftmost: bool, kind: u32, length: usize) -> Stop
     Stop::Full
 }
 
-// Overlapping search into a sheet, from its first slot. The three searches have a loop each, since the compiler makes slower code of one loop for all.
-pub fn fill_overlapping(
+// A search into a sheet, from its first slot.
+pub fn fill<S: Searching>(
     value: Search,
-    base: &[u32],
-    link: &[u32],
-    output: &[u32],
-    check: &[u8],
-    depth: &[Depth],
-    outs: &[[u32; 3]],
-    counts: Counts,
+    tables: &Tables<'_>,
     text: &[u8],
     sheet: &mut [[usize; 3]],
 ) -> Filled
-    ensures tells { Tells result (sheet_of overlapping (lent base.now link.now output.now check.now depth.now
-        outs.now counts) counts.kind text.now (length sheet.old) value) }
-    ensures sheet_after { sheet.new ≡ written (sheet_of overlapping (lent base.now link.now output.now check.now depth.now
-        outs.now counts) counts.kind text.now (length sheet.old) value) sheet.old }
+    ensures tells { Tells result (sheet_of S.which (lent tables.now) tables.now.counts.kind text.now (length sheet.old) value) }
+    ensures sheet_after { sheet.new ≡ written (sheet_of S.which (lent tables.now) tables.now.counts.kind text.now (length sheet.old) value) sheet.old }
 {
-    if sheet.len() == 0 {
-        return stopped(at_once(false, counts.kind, text.len()), 0, value);
+    let slots = sheet.len();
+    if slots == 0 {
+        let stop = at_once::<S>(tables.counts.kind, text.len());
+        return Filled {
+            stop,
+            count: 0,
+            value,
+        };
     }
     let mut at = value;
-    let mut filled = 0;
-    while filled < sheet.len() {
-        match at.next_overlapping(base, link, output, check, depth, outs, counts, text) {
+    for count in 0..slots {
+        match S::next(at, tables, text) {
             Answer::Match(found, next) => {
-                put(sheet, filled, found);
+                sheet[count] = record(found);
                 at = next;
-                filled += 1;
             }
-            Answer::End(last) => return stopped(Stop::Ended, filled, last),
-            Answer::Refused(why, same) => return stopped(Stop::Refused(why), filled, same),
+            Answer::End(last) => {
+                return Filled {
+                    stop: Stop::Ended,
+                    count,
+                    value: last,
+                };
+            }
+            Answer::Refused(why, same) => {
+                return Filled {
+                    stop: Stop::Refused(why),
+                    count,
+                    value: same,
+                };
+            }
         }
     }
-    stopped(Stop::Full, filled, at)
-}
-
-// Plain search into a sheet.
-pub fn fill_plain(
-    value: Search,
-    base: &[u32],
-    link: &[u32],
-    output: &[u32],
-    check: &[u8],
-    depth: &[Depth],
-    outs: &[[u32; 3]],
-    counts: Counts,
-    text: &[u8],
-    sheet: &mut [[usize; 3]],
-) -> Filled
-    ensures tells { Tells result (sheet_of plain (lent base.now link.now output.now check.now depth.now
-        outs.now counts) counts.kind text.now (length sheet.old) value) }
-    ensures sheet_after { sheet.new ≡ written (sheet_of plain (lent base.now link.now output.now check.now depth.now
-        outs.now counts) counts.kind text.now (length sheet.old) value) sheet.old }
-{
-    if sheet.len() == 0 {
-        return stopped(at_once(false, counts.kind, text.len()), 0, value);
+    Filled {
+        stop: Stop::Full,
+        count: slots,
+        value: at,
     }
-    let mut at = value;
-    let mut filled = 0;
-    while filled < sheet.len() {
-        match at.next_plain(base, link, output, check, depth, outs, counts, text) {
-            Answer::Match(found, next) => {
-                put(sheet, filled, found);
-                at = next;
-                filled += 1;
-            }
-            Answer::End(last) => return stopped(Stop::Ended, filled, last),
-            Answer::Refused(why, same) => return stopped(Stop::Refused(why), filled, same),
-        }
-    }
-    stopped(Stop::Full, filled, at)
-}
-
-// Leftmost search into a sheet.
-pub fn fill_leftmost(
-    value: Search,
-    base: &[u32],
-    link: &[u32],
-    output: &[u32],
-    check: &[u8],
-    depth: &[Depth],
-    outs: &[[u32; 3]],
-    counts: Counts,
-    text: &[u8],
-    sheet: &mut [[usize; 3]],
-) -> Filled
-    ensures tells { Tells result (sheet_of leftmost (lent base.now link.now output.now check.now depth.now
-        outs.now counts) counts.kind text.now (length sheet.old) value) }
-    ensures sheet_after { sheet.new ≡ written (sheet_of leftmost (lent base.now link.now output.now check.now depth.now
-        outs.now counts) counts.kind text.now (length sheet.old) value) sheet.old }
-{
-    if sheet.len() == 0 {
-        return stopped(at_once(true, counts.kind, text.len()), 0, value);
-    }
-    let mut at = value;
-    let mut filled = 0;
-    while filled < sheet.len() {
-        match at.next_leftmost(base, link, output, check, depth, outs, counts, text) {
-            Answer::Match(found, next) => {
-                put(sheet, filled, found);
-                at = next;
-                filled += 1;
-            }
-            Answer::End(last) => return stopped(Stop::Ended, filled, last),
-            Answer::Refused(why, same) => return stopped(Stop::Refused(why), filled, same),
-        }
-    }
-    stopped(Stop::Full, filled, at)
 }

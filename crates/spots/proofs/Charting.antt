@@ -11,7 +11,7 @@ use lib.Dec.{eqb}
 use lib.ListN.{length, replicate, length-set, length-replicate}
 use Rattle.zeros.specs.Rows.{zeros, field}
 use Rattle.zeros.proofs.Rows.{field_set_same, field_set_other, field_zeros}
-use Rattle.paper.proofs.Tests.{eq_eqb, ne_eqb, or_right, lt_leb}
+use Rattle.std.proofs.lemmas.Bool.{eq-eqb, ne_eqb, or_right, lt-leb}
 use Rattle.list.specs.Limits.{alphabet, block}
 use Rattle.plan.specs.Groups.{Group, bytes_of}
 use Rattle.plan.specs.Placement.{Layout, one_block, any_of, sits, taken_cell, vacant, used_base, grown, put, Alphabet, Good}
@@ -99,7 +99,7 @@ module _ (rows : List (List ℕ)) (i : ℕ) (inside : i < length rows) where
   chart_cell : {T U : ℕ → Bool} → Chart rows T U → Chart (with_taken rows i 1) (λ j. T j || eqb i j) U
   chart_cell {T} {U} C =
       chart_run 1 C (omega arith) (λ j h. rw (ne_eqb i j (λ e. h (sym e))) (sym (or-false (T j))))
-      (λ j h. let e : i ≡ i + j = omega arith in or_right (T (i + j)) (eqb i (i + j)) (eq_eqb i (i + j) e))
+      (λ j h. let e : i ≡ i + j = omega arith in or_right (T (i + j)) (eqb i (i + j)) (eq-eqb i (i + j) e))
 
   -- one base more is used
   chart_base : {T U : ℕ → Bool} → Chart rows T U → Chart (with_used rows i) T (λ b. U b || eqb i b)
@@ -108,7 +108,7 @@ module _ (rows : List (List ℕ)) (i : ℕ) (inside : i < length rows) where
         vacancy = λ j h. rw (used_cells j) (C.vacancy j (within j h));
         run = λ j k h m. C.run j k (within j h) (rw (used_cells j) at m);
         bases = λ b h. elim (ℕ_discrete b i) [
-          | yes e ↦ rw (e, used_at, or_right (U i) (eqb i i) (eq_eqb i i refl))
+          | yes e ↦ rw (e, used_at, or_right (U i) (eqb i i) (eq-eqb i i refl))
           | no e ↦ rw (used_off b e, ne_eqb i b (λ q. e (sym q)), or-false (U b)) (C.bases b (within b h))
         ];
       }
@@ -136,11 +136,6 @@ chart_seated rows b (c ∷ cs) {T} {U} C within =
     (λ j. or_assoc (T j) (eqb (bit_xor b c) j) (any_of (λ d. eqb (bit_xor b d) j) cs)) (λ _. refl)
 
 -- ---- the charts of layouts
-
--- a longer run is noted, all of it taken
-pub charted_run : {rows : List (List ℕ)} {l : Layout} → Charted rows l → (i n : ℕ) → i < length rows → 0 < n
-    → ((j : ℕ) → j < n → taken_cell l (i + j) ≡ true) → Charted (with_taken rows i n) l
-charted_run {rows} C i n h some all = charted (chart_run rows i h n (chart C) some (λ _ _. refl) all)
 
 -- a block more changes nothing
 pub charted_grown : {rows : List (List ℕ)} {l : Layout} → Charted rows l → Charted rows (grown l)
@@ -170,7 +165,7 @@ unfolding taken_cell any_of
 begun_cells zero = refl
 begun_cells (suc zero) = refl
 begun_cells (suc (suc j)) =
-    rw (ne_eqb 0 (suc (suc j)) (λ z. omega arith), ne_eqb 1 (suc (suc j)) (λ z. omega arith), lt_leb (suc (suc j)) 1 (omega arith))
+    rw (ne_eqb 0 (suc (suc j)) (λ z. omega arith), ne_eqb 1 (suc (suc j)) (λ z. omega arith), lt-leb (suc (suc j)) 1 (omega arith))
 
 begun_bases : (b : ℕ) → false ≡ used_base one_block b
 unfolding used_base any_of

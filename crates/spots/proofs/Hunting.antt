@@ -3,6 +3,7 @@ use mathlib.Core.Path.{◌≡◌, sym, ap, ◌∙◌}
 use mathlib.Core.Bool.{true, false, not}
 use mathlib.Core.List.{List, [], head-eq_of_cons-eq}
 use mathlib.Core.Option.{none, some}
+use Rattle.std.specs.Prelude.{Some, None}
 use Prim.Native.Nat.{ℕ, ◌+◌, ◌-◌, ◌≤◌, ◌<◌}
 use native.Mathlib.Decide.{ℕ_discrete, dec_lt}
 use native.Mathlib.Omega.{arith}
@@ -12,7 +13,7 @@ use lib.ListN.{length, get_or}
 use Rattle.zeros.specs.Rows.{field}
 use Rattle.paper.specs.Patterns.{Entry}
 use Rattle.paper.specs.Automaton.{is_state}
-use Rattle.paper.proofs.Tests.{and_both, not_true, not_false}
+use Rattle.std.proofs.lemmas.Bool.{and_from, not-false}
 use Rattle.list.specs.Limits.{alphabet, block}
 use Rattle.plan.specs.Names.{names}
 use Rattle.plan.specs.Breadth.{kid_bytes}
@@ -20,22 +21,15 @@ use Rattle.plan.specs.Groups.{Group}
 use Rattle.plan.specs.Placement.{Layout, taken_cell, vacant, fits, first_where, serves}
 use Rattle.plan.proofs.Scans.{to_first_some, to_first_none}
 use Rattle.plan.proofs.Xor.{xor_below}
-use Rattle.trie.proofs.Walks.{Walk, walk_begin, walk_kid, walk_room, walk_first, rest}
-use Rattle.spots.specs.declared.Base.TheVariants.{At, Nothing}
+use Rattle.trie.proofs.Walks.{Walk, walk_begin, walk_kid, walk_first, rest}
 use Rattle.spots.specs.Charted.{Charted, Next, Stretch, Seek, Try, GroupAt, FoundBase}
 use Rattle.spots.proofs.Charting.{bytes}
 
 -- ---- a state that has children
 
 module _ {es : List Entry} {l : Layout} {trie rows : List (List ℕ)} {s from end : ℕ} (K : Seek es l trie rows s from end) where
-  pub seek_state : s < length trie
-  seek_state = omega (arith, K.inside, K.stands.room)
-
   seek_walk : Walk es (get_or (names alphabet es) s []) (kid_bytes alphabet (is_state es) (get_or (names alphabet es) s [])) (field trie s 0)
   seek_walk = walk_begin K.stands s K.inside
-
-  pub seek_child : {t : ℕ} → t ≡ field trie s 0 → t < length trie
-  seek_child e = rw e (walk_room K.stands seek_walk K.parent)
 
   -- it has a group, and the first child's byte is the lowest of it
   pub seek_group : (g : Group) × GroupAt es s g
@@ -98,7 +92,7 @@ module _ {es : List Entry} {l : Layout} {g : Group} {trie rows : List (List ℕ)
   base_is : bit_xor i low ≡ bit_xor i g.low
   base_is = ap (bit_xor i) H.lowest
 
-  pub hunt_none : end ≤ i → FoundBase l g from end Nothing
+  pub hunt_none : end ≤ i → FoundBase l g from end None
   hunt_none h = to_first_none (serves l g) from (end - from) (λ j lo hi. H.unfit j lo (omega (arith, H.reached)))
 
   module _ (h : i < end) where
@@ -121,14 +115,14 @@ module _ {es : List Entry} {l : Layout} {g : Group} {trie rows : List (List ℕ)
         let S = H.seek.stretch in
         record { charted = S.charted; ordered = omega arith; room = S.room; past = S.past }
 
-    pub hunt_found : true ≡ fits l g (bit_xor i low) → FoundBase l g from end (At (bit_xor i low))
+    pub hunt_found : true ≡ fits l g (bit_xor i low) → FoundBase l g from end (Some (bit_xor i low))
     hunt_found f = (
       i,
       to_first_some (serves l g) from (end - from) i
           (record {
             from = H.reached;
             within = omega (arith, H.reached);
-            passed = and_both (vacant l i) (fits l g (bit_xor i g.low)) H.free (sym (f ∙ ap (fits l g) base_is));
+            passed = and_from (vacant l i) (fits l g (bit_xor i g.low)) H.free (sym (f ∙ ap (fits l g) base_is));
             first = H.unfit;
           }),
       base_is,
@@ -167,27 +161,12 @@ pub record Scanned (rows : List (List ℕ)) (from end b : ℕ) : Type 0 where
   pub within : b ≤ end
   pub used : (j : ℕ) → from ≤ j → j < b → eqb (field rows j 1) 0 ≡ false
 
-pub scan_none : (rows : List (List ℕ)) (from end : ℕ) → end ≡ from + block → Scanned rows from end from
-scan_none rows from end e = record { whole = e; reached = omega arith; within = omega arith; used = λ j h k. absurd (omega arith) }
-
 module _ {rows : List (List ℕ)} {from end b : ℕ} (P : Scanned rows from end b) where
   module _ (h : b < end) where
-    pub scan_more : not (eqb (field rows b 1) 0) ≡ true → Scanned rows from end (b + 1)
-    scan_more u =
-        record {
-          whole = P.whole;
-          reached = omega (arith, P.reached);
-          within = omega arith;
-          used = λ j lo hi. elim (ℕ_discrete j b) [
-            | yes e ↦ rw e (not_true (eqb (field rows b 1) 0) u)
-            | no e ↦ P.used j lo (omega arith)
-          ];
-        }
-
     pub scan_found : not (eqb (field rows b 1) 0) ≡ false → first_where (λ (j : ℕ). eqb (field rows j 1) 0) from block ≡ some b
     scan_found u =
         to_first_some (λ (j : ℕ). eqb (field rows j 1) 0) from block b
-        (record { from = P.reached; within = omega (arith, P.whole); passed = not_false (eqb (field rows b 1) 0) u; first = P.used })
+        (record { from = P.reached; within = omega (arith, P.whole); passed = not-false (eqb (field rows b 1) 0) u; first = P.used })
 
   pub scan_end : end ≤ b → first_where (λ (j : ℕ). eqb (field rows j 1) 0) from block ≡ none
   scan_end h = to_first_none (λ (j : ℕ). eqb (field rows j 1) 0) from block (λ j lo hi. P.used j lo (omega (arith, P.whole)))

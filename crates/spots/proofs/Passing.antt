@@ -1,15 +1,15 @@
 -- The look for the next vacant index: runs of taken cells are passed, and a run never reaches past the end, which is vacant.
-use mathlib.Core.Path.{◌≡◌, sym, ◌∙◌, subst}
+use mathlib.Core.Path.{◌≡◌, subst}
 use mathlib.Core.Bool.{true}
 use mathlib.Core.List.{List}
 use Prim.Native.Nat.{ℕ, ◌+◌, ◌-◌, ◌≤◌, ◌<◌}
 use native.Mathlib.Decide.{dec_lt}
 use native.Mathlib.Omega.{arith}
 use Rattle.zeros.specs.Rows.{field}
-use Rattle.paper.proofs.Tests.{clash, not_true, eq_eqb}
-use Rattle.plan.specs.Placement.{Layout, taken_cell, vacant}
-use Rattle.spots.specs.Charted.{with_taken, Charted, Next, Stretch}
-use Rattle.spots.proofs.Charting.{charted_run}
+use Rattle.std.proofs.lemmas.Bool.{not-true}
+use Rattle.paper.proofs.Tests.{clash}
+use Rattle.plan.specs.Placement.{Layout, taken_cell}
+use Rattle.spots.specs.Charted.{Stretch}
 
 -- the look has come to i
 pub record Passed (l : Layout) (from end i : ℕ) : Type 0 where
@@ -18,9 +18,6 @@ pub record Passed (l : Layout) (from end i : ℕ) : Type 0 where
   pub taken : (j : ℕ) → from ≤ j → j < i → taken_cell l j ≡ true
 
 module _ {rows : List (List ℕ)} {l : Layout} {from end : ℕ} (S : Stretch rows l from end) where
-  pub passed_none : Passed l from end from
-  passed_none = record { reached = omega arith; within = S.ordered; taken = λ j h k. absurd (omega arith) }
-
   module _ {i : ℕ} (P : Passed l from end i) where
     -- the run at i ends before the end of the stretch
     pub run_within : i < end → i + field rows i 0 ≤ end
@@ -29,7 +26,7 @@ module _ {rows : List (List ℕ)} {l : Layout} {from end : ℕ} (S : Stretch row
           | yes k ↦
               let e : i + (end - i) ≡ end = omega arith in
               let t : taken_cell l (i + (end - i)) ≡ true = S.charted.run i (end - i) (omega (arith, S.room)) (omega arith) in
-              clash (subst (λ (j : ℕ). taken_cell l j ≡ true) e t) (not_true (taken_cell l end) S.past)
+              clash (subst (λ (j : ℕ). taken_cell l j ≡ true) e t) (not-true (taken_cell l end) S.past)
           | no k ↦ omega arith
         ]
 
@@ -45,19 +42,3 @@ module _ {rows : List (List ℕ)} {l : Layout} {from end : ℕ} (S : Stretch row
                 subst (λ (m : ℕ). taken_cell l m ≡ true) e (S.charted.run i (j - i) (omega (arith, S.room)) (omega arith))
           ];
         }
-
-    -- the look ends at a vacant index
-    pub next_at : vacant l i ≡ true → Next l from end i
-    next_at v = record { reached = P.reached; within = P.within; free = v; passed = P.taken }
-
-    pub next_found : i < end → field rows i 0 ≡ 0 → Next l from end i
-    next_found h z = next_at (sym (S.charted.vacancy i (omega (arith, S.room))) ∙ eq_eqb (field rows i 0) 0 z)
-
-    pub next_end : end ≤ i → Next l from end i
-    next_end h = let e : end ≡ i = omega (arith, P.within) in next_at (subst (λ (j : ℕ). vacant l j ≡ true) e S.past)
-
-    -- what was passed is noted
-    pub noted : from < i → Charted (with_taken rows from (i - from)) l
-    noted h =
-        charted_run S.charted from (i - from) (omega (arith, P.within, S.room)) (omega arith)
-        (λ j k. P.taken (from + j) (omega arith) (omega arith))

@@ -9,15 +9,13 @@ use lib.Dec.{eqb}
 use lib.ListN.{length, get_or}
 use Rattle.zeros.specs.Rows.{field}
 use Rattle.paper.specs.Patterns.{Entry}
-use Rattle.paper.proofs.Tests.{not_true, not_false, eq_eqb, ne_eqb}
+use Rattle.std.proofs.lemmas.Bool.{not-true, not-false, eq-eqb, ne_eqb}
 use Rattle.list.specs.Limits.{alphabet}
 use Rattle.plan.specs.Names.{names}
 use Rattle.plan.specs.Groups.{Group}
 use Rattle.plan.specs.Placement.{Layout, all_of, vacant, used_base, fits}
 use Rattle.plan.proofs.Xor.{xor_below}
-use Rattle.trie.specs.Trie.{slots_of}
-use Rattle.trie.proofs.Seeking.{rank}
-use Rattle.trie.proofs.Walks.{Walk, walk_begin, walk_end, walk_kid, walk_room, walk_first, walk_next, walk_falls, rest}
+use Rattle.trie.proofs.Walks.{Walk, walk_begin, walk_end, walk_kid, walk_first, walk_next, rest}
 use Rattle.spots.specs.Charted.{Try, GroupAt, room_at}
 use Rattle.spots.proofs.Charting.{bytes}
 
@@ -32,10 +30,6 @@ pub record Trying (es : List Entry) (l : Layout) (s base t : ℕ) : Type 0 where
   pub same : vacant_at l base left ≡ room_at es l s base
 
 module _ {es : List Entry} {l : Layout} {trie rows : List (List ℕ)} {s base : ℕ} (R : Try es l trie rows s base) where
-  -- the rows that are read
-  pub try_state : s < length trie
-  try_state = omega (arith, R.inside, R.stands.room)
-
   pub try_base : base < length rows
   try_base = omega (arith, R.below, R.room)
 
@@ -44,15 +38,9 @@ module _ {es : List Entry} {l : Layout} {trie rows : List (List ℕ)} {s base : 
 
   module _ {t : ℕ} (A : Trying es l s base t) where
     module _ (nz : t ≡ 0 → ⊥) where
-      pub try_child : t < length trie
-      try_child = walk_room R.stands A.walk nz
-
       pub try_cell : bit_xor base (field trie t 2) < length rows
       try_cell =
           omega (arith, xor_below alphabet bytes base (field trie t 2) R.blocks (walk_kid R.stands A.walk nz).byte R.below, R.room)
-
-      pub try_falls : rank alphabet (slots_of trie) (field trie t 1) < rank alphabet (slots_of trie) t
-      try_falls = walk_falls R.stands A.walk nz
 
       -- whether its cell is vacant
       try_vacant : eqb (field rows (bit_xor base (field trie t 2)) 0) 0 ≡ vacant l (bit_xor base (field trie t 2))
@@ -89,16 +77,16 @@ module _ {es : List Entry} {l : Layout} {trie rows : List (List ℕ)} {s base : 
 
   pub fits_not_zero : (g : Group) → base ≡ 0 → false ≡ fits l g base
   unfolding fits
-  fits_not_zero g z = rw (eq_eqb base 0 z)
+  fits_not_zero g z = rw (eq-eqb base 0 z)
 
   pub fits_not_used : (g : Group) → (base ≡ 0 → ⊥) → not (eqb (field rows base 1) 0) ≡ true → false ≡ fits l g base
   unfolding fits
   fits_not_used g nz u =
-      let used : used_base l base ≡ true = not_false (used_base l base) (sym (R.charted.bases base try_base) ∙ not_true (eqb (field rows base 1) 0) u) in
+      let used : used_base l base ≡ true = not-false (used_base l base) (sym (R.charted.bases base try_base) ∙ not-true (eqb (field rows base 1) 0) u) in
       rw (ne_eqb base 0 nz, used)
 
   pub fits_room : (g : Group) → GroupAt es s g → (base ≡ 0 → ⊥) → not (eqb (field rows base 1) 0) ≡ false → room_at es l s base ≡ fits l g base
   unfolding fits
   fits_room g e nz u =
-      let unused : used_base l base ≡ false = not_true (used_base l base) (sym (R.charted.bases base try_base) ∙ not_false (eqb (field rows base 1) 0) u) in
+      let unused : used_base l base ≡ false = not-true (used_base l base) (sym (R.charted.bases base try_base) ∙ not-false (eqb (field rows base 1) 0) u) in
       rw (ne_eqb base 0 nz, unused, e)

@@ -1,6 +1,7 @@
 -- Which cells are taken and which bases are used, as a table of rows: the chart of a layout.
-use Rattle.std.specs.Prelude.{◌≡◌, Bool, true, not, List, [], ◌∷◌, ℕ, ◌+◌, ◌-◌, ◌*◌, ◌≤◌, ◌<◌, eqb, length, get_or, set}
-use Rattle.std.proofs.Math.Option.{Option, none, some}
+use Rattle.std.specs.Prelude.{◌≡◌, Bool, true, not, List, [], ◌∷◌, ℕ, ◌+◌, ◌-◌, ◌*◌, ◌≤◌, ◌<◌, eqb, length, get_or, set, Option, Some, None}
+use Rattle.std.proofs.Math.Option as math
+use Rattle.std.proofs.Math.Option.{none, some}
 use Rattle.std.specs.Int.Bits.{bit_xor}
 use Rattle.zeros.specs.Rows.{field}
 use Rattle.paper.specs.Patterns.{Entry}
@@ -11,8 +12,6 @@ use Rattle.plan.specs.Breadth.{kid_bytes}
 use Rattle.plan.specs.Groups.{Group, bytes_of}
 use Rattle.plan.specs.Placement.{Layout, all_of, taken_cell, vacant, used_base, first_fit}
 use Rattle.trie.specs.Stands.{Stands}
-use Rattle.spots.specs.declared.Base.{Base}
-use Rattle.spots.specs.declared.Base.TheVariants.{At, Nothing}
 
 -- the rows with one field of row i anew: so many cells from i on are taken
 abbrev pub with_taken : List (List ℕ) → ℕ → ℕ → List (List ℕ)
@@ -92,11 +91,11 @@ abbrev pub GroupAt : List Entry → ℕ → Group → Type 0
 GroupAt es s g = kid_bytes alphabet (is_state es) (get_or (names alphabet es) s []) ≡ bytes_of g
 
 -- what a look for a base found: that of the first index of the stretch that serves, or that none does
-abbrev pub FoundBase : Layout → Group → ℕ → ℕ → Base → Type 0
-FoundBase l g from end (At b) = (i : ℕ) × (first_fit l g from (end - from) ≡ some i) × (b ≡ bit_xor i g.low)
-FoundBase l g from end Nothing = first_fit l g from (end - from) ≡ none
+abbrev pub FoundBase : Layout → Group → ℕ → ℕ → Option ℕ → Type 0
+FoundBase l g from end (Some b) = (i : ℕ) × (first_fit l g from (end - from) ≡ some i) × (b ≡ bit_xor i g.low)
+FoundBase l g from end None = first_fit l g from (end - from) ≡ none
 
 -- the base of an answer
-abbrev pub based : Base → Option ℕ
-based (At b) = some b
-based Nothing = none
+abbrev pub based : Option ℕ → math.Option ℕ
+based (Some b) = some b
+based None = none

@@ -15,41 +15,31 @@ ghost use Rattle.spots.specs.Charted.{room_at, GroupAt, FoundBase, based};
 use list::limits::BLOCK;
 use trie::TrieId;
 
-// The fields of a cell's row: 0 for a vacant cell, else how many cells from it on are taken; and 1 for a base that is used.
+// The fields of a cell's row: 0 for a vacant cell, else how many cells from it on are taken; and 1 for a base that is used. Rows are
+// numbers and no structs, since C lends them.
 const TAKEN: usize = 0;
 
 const USED: usize = 1;
-
-// The base that was looked for.
-#[derive(Clone, Copy)]
-pub enum Base {
-    At(u32),
-    Nothing,
-}
 
 pub fn is_vacant(spots: &[[u32; 2]], i: u32) -> bool
     requires { i < length spots.now }
     ensures { result ≡ eqb (field spots.now i 0) 0 }
 {
-    let k = i as usize;
-    spots[k][TAKEN] == 0
+    spots[i as usize][TAKEN] == 0
 }
 
 fn is_used(spots: &[[u32; 2]], b: u32) -> bool
     requires { b < length spots.now }
     ensures { result ≡ not (eqb (field spots.now b 1) 0) }
 {
-    let k = b as usize;
-    spots[k][USED] != 0
+    spots[b as usize][USED] != 0
 }
 
 fn set_taken(spots: &mut [[u32; 2]], i: u32, n: u32)
     requires { i < length spots.old }
     ensures { spots.new ≡ with_taken spots.old i n }
 {
-    let k = i as usize;
-    let old = spots[k];
-    spots[k] = [n, old[1]];
+    spots[i as usize][TAKEN] = n;
 }
 
 pub fn take_cell(spots: &mut [[u32; 2]], i: u32)
@@ -63,12 +53,11 @@ pub fn use_base(spots: &mut [[u32; 2]], b: u32)
     requires { b < length spots.old }
     ensures { spots.new ≡ with_used spots.old b }
 {
-    let k = b as usize;
-    let old = spots[k];
-    spots[k] = [old[0], 1];
+    spots[b as usize][USED] = 1;
 }
 
-// The first vacant index from `from` on, the end where there is none. What it passed is noted for the next look.
+// The first vacant index from `from` on, the end where there is none. What it passed is noted for the next look. A step passes a whole run,
+// so no `for` over the indexes says it.
 fn next_vacant(spots: &mut [[u32; 2]], from: u32, end: u32) -> u32
     requires { StretchSome spots.old from end }
     ensures { (l : Layout) → Stretch spots.old l from end → Next l from end result × Charted spots.new l }
@@ -93,11 +82,8 @@ fn has_room(trie: &[[u32; 5]], spots: &[[u32; 2]], s: TrieId, base: u32) -> bool
     ensures { (es : List Entry) (l : Layout) → Try es l trie.now spots.now s.0 base
         → result ≡ room_at es l s.0 base }
 {
-    let mut t = trie::first_child(trie, s);
-    while t.0 != 0 {
-        if is_vacant(spots, base ^ trie::label(trie, t)) {
-            t = trie::next_sibling(trie, t);
-        } else {
+    for child in trie::children(trie, s) {
+        if !is_vacant(spots, base ^ trie::label(trie, child)) {
             return false;
         }
     }
@@ -110,17 +96,18 @@ fn fits(trie: &[[u32; 5]], spots: &[[u32; 2]], s: TrieId, base: u32) -> bool
     ensures { (es : List Entry) (l : Layout) (g : Group) → Try es l trie.now spots.now s.0 base
         → GroupAt es s.0 g → result ≡ fits l g base }
 {
-    if base == 0 {
-        return false;
-    }
-    if is_used(spots, base) {
-        return false;
-    }
-    has_room(trie, spots, s, base)
+    base != 0 && !is_used(spots, base) && has_room(trie, spots, s, base)
 }
 
-// The base of the first vacant index from `from` on, below `end`, whose base, the index xor the lowest child byte, s may have.
-pub fn find_base(trie: &[[u32; 5]], spots: &mut [[u32; 2]], s: TrieId, from: u32, end: u32) -> Base
+// The base of the first vacant index from `from` on, below `end`, whose base, the index xor the lowest child byte, s may have. The
+// look for the next vacant index says how far a step goes, so no `for` says it.
+pub fn find_base(
+    trie: &[[u32; 5]],
+    spots: &mut [[u32; 2]],
+    s: TrieId,
+    from: u32,
+    end: u32,
+) -> Option<u32>
     requires { SeekSome trie.now spots.old s.0 from end }
     ensures { (es : List Entry) (l : Layout) (g : Group) → Seek es l trie.now spots.old s.0 from end
         → GroupAt es s.0 g → FoundBase l g from end result × Charted spots.new l }
@@ -130,26 +117,22 @@ pub fn find_base(trie: &[[u32; 5]], spots: &mut [[u32; 2]], s: TrieId, from: u32
     while i < end {
         let base = i ^ low;
         if fits(trie, spots, s, base) {
-            return Base::At(base);
+            return Some(base);
         }
         i = next_vacant(spots, i + 1, end);
     }
-    Base::Nothing
+    None
 }
 
 // The smallest unused base of the block that begins at `from`.
-pub fn unused_base(spots: &[[u32; 2]], from: u32) -> Base
+pub fn unused_base(spots: &[[u32; 2]], from: u32) -> Option<u32>
     requires { (from + block ≤ length spots.now) × (from < most_cells) }
     ensures { based result ≡ first_where (λ (b : ℕ). eqb (field spots.now b 1) 0) from block }
 {
-    let end = from + BLOCK;
-    let mut b = from;
-    while b < end {
-        if is_used(spots, b) {
-            b += 1;
-        } else {
-            return Base::At(b);
+    for b in from..from + BLOCK {
+        if !is_used(spots, b) {
+            return Some(b);
         }
     }
-    Base::Nothing
+    None
 }

@@ -1,21 +1,17 @@
 -- When tables agree with the accepted patterns of a kind: what builds give and searches use, in the readers' answers alone. It says nothing of
 -- where groups lie, of vacant cells, of the order in which states were made, nor of output places beyond the readers' own tests.
-use Rattle.std.specs.Prelude.{◌≡◌, true, false, List, [], ◌∷◌, ℕ, ◌≤◌, ◌<◌, length, get_or}
+use Rattle.std.specs.Prelude.{◌≡◌, true, false, List, [], ◌∷◌, ℕ, ◌≤◌, ◌<◌, length, get_or, Option, Some, None, Result, Ok, Err}
 use Rattle.std.specs.Int.Bits.{bit_xor}
 use Rattle.paper.specs.Lists.{snoc}
 use Rattle.paper.specs.Patterns.{Entry, Kind}
 use Rattle.paper.specs.Automaton.{machine, is_state, Link, dead, to, link, output}
 use Rattle.list.specs.Limits.{alphabet}
 use Rattle.table.specs.Readers.{probe_of, link_of, place_of, output_of}
+use Rattle.table.specs.declared.CellId.{CellId}
 use Rattle.table.specs.declared.Counts.{Counts}
-use Rattle.table.specs.declared.Found.{Found}
-use Rattle.table.specs.declared.Found.TheVariants as found
-use Rattle.table.specs.declared.Linked.{Linked}
-use Rattle.table.specs.declared.Linked.TheVariants as linked
-use Rattle.table.specs.declared.Begins.{Begins}
-use Rattle.table.specs.declared.Begins.TheVariants as begins
-use Rattle.table.specs.declared.Shown.{Shown}
-use Rattle.table.specs.declared.Shown.TheVariants as shown
+use Rattle.table.specs.declared.Damage.{Damage}
+use Rattle.table.specs.declared.Row.{Row}
+use Rattle.table.specs.declared.Tables as declared
 
 -- what a search is lent: five columns of cells, the rows of the outputs, how many cells are in use, and how many patterns were accepted
 pub record Tables : Type 0 where
@@ -28,27 +24,31 @@ pub record Tables : Type 0 where
   pub cells : ℕ
   pub accepted : ℕ
 
--- the tables as they are lent, with the counts of the build
-abbrev pub lent : List ℕ → List ℕ → List ℕ → List ℕ → List ℕ → List (List ℕ) → Counts → Tables
-lent base link output check depth outs counts =
+-- the tables of these columns and rows, with the counts of a build
+abbrev pub tables_from : List ℕ → List ℕ → List ℕ → List ℕ → List ℕ → List (List ℕ) → Counts → Tables
+tables_from base link output check depth outs counts =
     record { base = base; link = link; output = output; check = check; depth = depth; outs = outs; cells = counts.cells; accepted = counts.accepted }
+
+-- the tables as a search is lent them
+abbrev pub lent : declared.Tables → Tables
+lent t = tables_from t.base.now t.link.now t.output.now t.check.now t.depth.now t.outs.now t.counts
 
 -- ---- the readers on these tables
 
 -- the child of the state in cell i on a byte
-abbrev pub probe_in : Tables → ℕ → ℕ → Found
+abbrev pub probe_in : Tables → ℕ → ℕ → Result (Option CellId) Damage
 probe_in T i c = probe_of T.base T.check T.cells i c
 
 -- where the state in cell i links to
-abbrev pub link_in : Tables → ℕ → Linked
+abbrev pub link_in : Tables → ℕ → Result CellId Damage
 link_in T i = link_of T.link T.depth T.cells i
 
 -- where the outputs of the state in cell i begin
-abbrev pub place_in : Tables → ℕ → Begins
+abbrev pub place_in : Tables → ℕ → Result (Option ℕ) Damage
 place_in T i = place_of T.output T.cells i
 
 -- the output at a place, for a match that ends at `end`
-abbrev pub output_in : Tables → ℕ → ℕ → Shown
+abbrev pub output_in : Tables → ℕ → ℕ → Result (Option Row) Damage
 output_in T place end = output_of T.outs T.accepted place end
 
 -- ---- the cells of states
@@ -73,7 +73,7 @@ target_of T (to r) = state_cell T r
 pub record GivesAt (T : Tables) (values : List ℕ) (place : ℕ) (x : Entry) : Type 0 where
   pub next : ℕ
   pub given : (end : ℕ) → length x.word ≤ end
-      → output_in T place end ≡ shown.Given (record { value = get_or values x.row 0; length = length x.word; next = next })
+      → output_in T place end ≡ Ok (Some (record { value = get_or values x.row 0; length = length x.word; next = next }))
 
 -- the chain from a place gives these entries, then nothing
 abbrev pub Chain : Tables → List ℕ → ℕ → List Entry → Type 0
@@ -81,10 +81,10 @@ Chain T values place [] = place ≡ 0
 Chain T values place (x ∷ xs) = (t : GivesAt T values place x) × Chain T values t.next xs
 
 -- so does the chain of a state, which has no place if it has no entries
-abbrev pub ChainOf : Tables → List ℕ → Begins → List Entry → Type 0
-ChainOf T values (begins.At p) xs = Chain T values p xs
-ChainOf T values begins.Nothing xs = xs ≡ []
-ChainOf T values begins.Damage xs = ⊥
+abbrev pub ChainOf : Tables → List ℕ → Result (Option ℕ) Damage → List Entry → Type 0
+ChainOf T values (Ok (Some p)) xs = Chain T values p xs
+ChainOf T values (Ok None) xs = xs ≡ []
+ChainOf T values (Err d) xs = ⊥
 
 -- ---- the sentence
 
@@ -112,13 +112,13 @@ pub record Agrees (T : Tables) (kind : Kind) (es : List Entry) (values : List �
   -- no state has dead's cell
   pub living : (s : List ℕ) → is_state es s ≡ true → state_cell T s ≡ 1 → ⊥
   -- a probe finds the child of a state that has it
-  pub child : (s : List ℕ) (c : ℕ) → is_state es (snoc s c) ≡ true → probe_in T (state_cell T s) c ≡ found.At (record { 0 = state_cell T (snoc s c) })
+  pub child : (s : List ℕ) (c : ℕ) → is_state es (snoc s c) ≡ true → probe_in T (state_cell T s) c ≡ Ok (Some (record { 0 = state_cell T (snoc s c) }))
   -- it finds nothing where the state has no such child
   pub childless : (s : List ℕ) (c : ℕ) → is_state es s ≡ true → c < alphabet → is_state es (snoc s c) ≡ false
-      → probe_in T (state_cell T s) c ≡ found.Nothing
+      → probe_in T (state_cell T s) c ≡ Ok None
   -- a state other than root links where the automaton says
   pub links : (x : ℕ) (xs : List ℕ) → is_state es (x ∷ xs) ≡ true
-      → link_in T (state_cell T (x ∷ xs)) ≡ linked.To (record { 0 = target_of T (link (machine kind es) (x ∷ xs)) })
+      → link_in T (state_cell T (x ∷ xs)) ≡ Ok (record { 0 = target_of T (link (machine kind es) (x ∷ xs)) })
   -- the depth of a state is its length
   pub depths : (s : List ℕ) → is_state es s ≡ true → get_or T.depth (state_cell T s) 0 ≡ length s
   -- a state's chain gives what the automaton puts out there

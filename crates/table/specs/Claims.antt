@@ -1,13 +1,9 @@
 -- What is proved of the readers' answers, in the words of document 01. The proofs stand in ../proofs.
-use Rattle.std.specs.Prelude.{◌≡◌, true, false, List, ◌⊎◌, ◌↔◌, ℕ, ◌-◌, ◌≤◌, ◌<◌, length, get_or}
+use Rattle.std.specs.Prelude.{◌≡◌, true, false, List, ◌⊎◌, ◌↔◌, ℕ, ◌-◌, ◌≤◌, ◌<◌, length, get_or, Some, None, Ok}
 use Rattle.std.specs.Int.Bits.{bit_xor}
 use Rattle.zeros.specs.Rows.{field}
 use Rattle.table.specs.Slots.{column_slots}
-use Rattle.table.specs.Readers.{there, probe_of, link_of, place_of, output_of}
-use Rattle.table.specs.declared.Found.TheVariants as found
-use Rattle.table.specs.declared.Linked.TheVariants as linked
-use Rattle.table.specs.declared.Begins.TheVariants as begins
-use Rattle.table.specs.declared.Shown.TheVariants as shown
+use Rattle.table.specs.Readers.{there, damage, probe_of, link_of, place_of, output_of}
 
 -- so many cells lie within each column
 pub record Under (n base link output check depth : ℕ) : Type 0 where
@@ -72,27 +68,27 @@ pub record ReaderClaims : Type 0 where
   -- what lies within the slots of the cells lies within each column
   pub in_columns : (n base link output check depth : ℕ) → n ≤ column_slots base link output check depth → Under n base link output check depth
   -- a probe finds t exactly if t is the state's child on the byte
-  pub finds : (base check : List ℕ) (cells s c t : ℕ) → (probe_of base check cells s c ≡ found.At (record { 0 = t })) ↔ ChildAt base check cells s c t
+  pub finds : (base check : List ℕ) (cells s c t : ℕ) → (probe_of base check cells s c ≡ Ok (Some (record { 0 = t }))) ↔ ChildAt base check cells s c t
   -- from base 0 nothing is found, whatever the other cells hold
   pub childless : (base check : List ℕ) (cells s c : ℕ) → there cells (length base) s ≡ true → get_or base s 0 ≡ 0
-      → probe_of base check cells s c ≡ found.Nothing
+      → probe_of base check cells s c ≡ Ok None
   -- a probe tells damage exactly if it would need a cell that is not there
-  pub damaged : (base check : List ℕ) (cells s c : ℕ) → (probe_of base check cells s c ≡ found.Damage) ↔ NoCell base check cells s c
+  pub damaged : (base check : List ℕ) (cells s c : ℕ) → (probe_of base check cells s c ≡ damage) ↔ NoCell base check cells s c
   -- a link leads to t exactly if t is the state's target, both are cells, and t's depth is smaller; all else is damage
-  pub leads : (links depth : List ℕ) (cells s t : ℕ) → (link_of links depth cells s ≡ linked.To (record { 0 = t })) ↔ LinksTo links depth cells s t
+  pub leads : (links depth : List ℕ) (cells s t : ℕ) → (link_of links depth cells s ≡ Ok (record { 0 = t })) ↔ LinksTo links depth cells s t
   -- the outputs of a state begin at p exactly if p is the place in the state's cell and is not 0
-  pub begins_at : (output : List ℕ) (cells s p : ℕ) → (place_of output cells s ≡ begins.At p) ↔ BeginsAt output cells s p
+  pub begins_at : (output : List ℕ) (cells s p : ℕ) → (place_of output cells s ≡ Ok (Some p)) ↔ BeginsAt output cells s p
   -- a state has no outputs exactly if its cell has place 0
   pub without : (output : List ℕ) (cells s : ℕ)
-      → (place_of output cells s ≡ begins.Nothing) ↔ ((there cells (length output) s ≡ true) × (get_or output s 0 ≡ 0))
+      → (place_of output cells s ≡ Ok None) ↔ ((there cells (length output) s ≡ true) × (get_or output s 0 ≡ 0))
   -- its place is damaged exactly if the state is no cell
-  pub astray : (output : List ℕ) (cells s : ℕ) → (place_of output cells s ≡ begins.Damage) ↔ (there cells (length output) s ≡ false)
+  pub astray : (output : List ℕ) (cells s : ℕ) → (place_of output cells s ≡ damage) ↔ (there cells (length output) s ≡ false)
   -- an output is given exactly if all of it is sound
   pub given : (outs : List (List ℕ)) (accepted place end value size next : ℕ)
-      → (output_of outs accepted place end ≡ shown.Given (record { value = value; length = size; next = next }))
+      → (output_of outs accepted place end ≡ Ok (Some (record { value = value; length = size; next = next })))
       ↔ GivenAt outs accepted place end value size next
   -- there is nothing exactly at place 0
-  pub ended : (outs : List (List ℕ)) (accepted place end : ℕ) → (output_of outs accepted place end ≡ shown.Nothing) ↔ (place ≡ 0)
+  pub ended : (outs : List (List ℕ)) (accepted place end : ℕ) → (output_of outs accepted place end ≡ Ok None) ↔ (place ≡ 0)
   -- an output is damaged exactly if its place is past the outputs, its next place isn't below it, or its length is 0 or above the end
   pub broken : (outs : List (List ℕ)) (accepted place end : ℕ)
-      → (output_of outs accepted place end ≡ shown.Damage) ↔ BrokenAt outs accepted place end
+      → (output_of outs accepted place end ≡ damage) ↔ BrokenAt outs accepted place end

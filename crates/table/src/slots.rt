@@ -3,8 +3,8 @@ ghost use Rattle.std.specs.Prelude.{◌≡◌, length};
 ghost use Rattle.table.specs.Slots.{column_slots};
 
 use crate::Depth;
-use list::limits::least;
 
+// The columns come one by one, since a build lends them to write and a search to read.
 pub fn column_slots(
     base: &[u32],
     link: &[u32],
@@ -15,11 +15,9 @@ pub fn column_slots(
     ensures { result ≡ column_slots (length base.now) (length link.now) (length output.now)
         (length check.now) (length depth.now) }
 {
-    least(
-        base.len(),
-        least(
-            link.len(),
-            least(output.len(), least(check.len(), depth.len())),
-        ),
-    )
+    base.len()
+        .min(link.len())
+        .min(output.len())
+        .min(check.len())
+        .min(depth.len())
 }

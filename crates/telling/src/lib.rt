@@ -2,9 +2,12 @@
 // written at once.
 #![tactic(auto)]
 
+mod job;
 pub mod lines;
 mod matches;
 mod numbers;
-pub mod refuse;
 mod report;
 pub mod tell;
+pub mod trouble;
+
+pub use job::Job;

@@ -1,18 +1,20 @@
-// A line, put together in a buffer and written at once.
+// The lines of the command, each of which is put together and written at once, and the names in them.
+use desk::text::Room;
 use std::io;
 
 // The room of a word of the command line: no name of a file is longer.
 pub const NAME: usize = 4096;
 
-// The room of a line: a file's name of 4,095 bytes, each shown by four, and some words.
-pub(crate) const LINE: usize = 16640;
+// The room of a line: a file's name, each byte of it shown by four, and some words.
+const LINE: usize = 4 * NAME + 512;
 
-fn write_part<P: Print>(stream: &P, line: &[u8], size: usize) -> io::Result<()> {
-    let end = size.min(line.len());
-    stream.write_all(&line[..end])
-}
+pub type Name = Room<NAME>;
 
-// Writes the first bytes of a line.
-pub(crate) fn write_line<P: Print>(stream: &P, line: &[u8; LINE], size: usize) -> io::Result<()> {
-    write_part(stream, line, size)
+pub(crate) type Line = Room<LINE>;
+
+// Writes a line, and begins the next.
+pub(crate) fn write_line<P: Print>(stream: &P, line: &mut Line) -> io::Result<()> {
+    stream.write_all(line.as_bytes())?;
+    line.clear();
+    Ok(())
 }

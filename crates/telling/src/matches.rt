@@ -1,65 +1,57 @@
-// The calls of a search, and how they came out.
-use desk::hazards::is_hazard;
-use desk::words::Way;
-use search::{Answer, Refusal, Search};
-use std::io;
-use table::{Counts, Depth};
+// The matches of a search, one after the other.
+ghost use Rattle.std.specs.Iterator.{at_most};
+
+use crate::job::Job;
+use search::{Answer, Match, Refusal, Search, Searching};
+use std::marker::PhantomData;
 
 // A proved loop has to end. So the calls are counted, up to a number that no search uses up: a sheet has at most 65,536 places, at each of which at most
-// 1,024 codes end, and the end is said once.
-pub(crate) const CALLS: u32 = 67108865;
+// 1,024 codes end, and the end is said once. What would follow them is a refusal.
+const CALLS: u32 = 67108865;
 
-// How a run of calls came out.
+// What the next calls of a search of this sort answer: matches, or a refusal.
 #[derive(Drop)]
-pub(crate) enum Outcome {
-    Done,
-    // Standard output takes no more, and why.
-    Unwritten(io::Error),
-    Refused(Refusal),
+pub(crate) struct Matches<'a, S> {
+    job: Job<'a>,
+    pub value: Search,
+    left: u32,
+    sort: PhantomData<S>,
 }
 
-pub(crate) fn outcome_of(written: io::Result<()>) -> Outcome {
-    match written {
-        Ok(()) => Outcome::Done,
-        Err(why) => Outcome::Unwritten(why),
-    }
-}
-
-// The next answer of a search.
-pub(crate) fn call(
-    way: Way,
-    value: Search,
-    base: &[u32],
-    link: &[u32],
-    output: &[u32],
-    check: &[u8],
-    depth: &[Depth],
-    outs: &[[u32; 3]],
-    counts: Counts,
-    sheet: &[u8],
-) -> Answer {
-    match way {
-        Way::Overlapping => {
-            value.next_overlapping(base, link, output, check, depth, outs, counts, sheet)
-        }
-        Way::Plain => value.next_plain(base, link, output, check, depth, outs, counts, sheet),
-        _ => value.next_leftmost(base, link, output, check, depth, outs, counts, sheet),
-    }
-}
-
-// Whether the bytes of a match are those of a marked row.
-pub(crate) fn hazard_at(
-    bytes: &[u8],
-    ends: &[u32],
-    marks: &[u8],
-    sheet: &[u8],
-    start: usize,
-    end: usize,
-) -> bool {
-    if start <= end {
-        if end <= sheet.len() {
-            return is_hazard(bytes, ends, marks, &sheet[start..end]);
+impl<'a, S> Matches<'a, S> {
+    pub(crate) fn of(job: Job<'a>) -> Self {
+        Matches {
+            job,
+            value: Search::fresh(),
+            left: CALLS + 1,
+            sort: PhantomData,
         }
     }
-    false
+}
+
+impl<S: Searching> Iterator for Matches<'_, S> {
+    type Item = Result<Match, Refusal>;
+
+    ghost remaining = { λ matches. at_most matches.left };
+
+    fn next(&mut self) -> Option<Result<Match, Refusal>> {
+        if self.left == 0 {
+            return None;
+        }
+        self.left -= 1;
+        if self.left == 0 {
+            return Some(Err(Refusal::Damage));
+        }
+        match S::next(self.value, &self.job.tables, self.job.sheet) {
+            Answer::Match(found, next) => {
+                self.value = next;
+                Some(Ok(found))
+            }
+            Answer::End(last) => {
+                self.value = last;
+                None
+            }
+            Answer::Refused(why, _) => Some(Err(why)),
+        }
+    }
 }

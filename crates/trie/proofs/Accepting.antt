@@ -8,15 +8,16 @@ use native.Mathlib.Omega.{arith}
 use lib.ListN.{length, get_or, drop, length-append}
 use lib.Seq.{drop-cons, drop-length}
 use Rattle.paper.specs.Patterns.{Entry, longest, first, Kind, standard, leftmost, rows_from, rows, proper_prefix, barred, keep, accepted}
-use Rattle.paper.proofs.Tests.{test}
+use Rattle.std.specs.Prelude.{Result, Ok, Err, IsErr}
+use Rattle.paper.proofs.Tests.{test, clash}
 use Rattle.list.specs.Limits.{alphabet}
 use Rattle.plan.specs.Names.{names, names_from, root_and_dead}
 use Rattle.plan.proofs.Names.{from_long}
 use Rattle.trie.specs.Trie.{Slots}
 use Rattle.trie.specs.Owned.{Owns}
 use Rattle.trie.specs.Made.{Made, GrewOk, grown_by, drops_of, accept_on, entry}
-use Rattle.trie.specs.declared.Grew.{Grew}
-use Rattle.trie.specs.declared.Grew.TheVariants.{On, Full}
+use Rattle.trie.specs.declared.Grown.{Grown}
+use Rattle.trie.specs.declared.FewStates.{FewStates}
 use Rattle.trie.proofs.Making.{from_append}
 
 -- ---- acceptance, pattern by pattern, is the paper's
@@ -130,14 +131,11 @@ names_none = refl
 pub never_two : (slots : ℕ) (drops : Bool) (ps : List (List ℕ)) → slots < 2 → slots < length (names alphabet (accept_on drops [] (rows ps)))
 never_two slots drops ps h = omega (arith, accept_long drops [] (rows ps), names_none)
 
--- what an answer says, by its case
-pub grew_on : (slots : ℕ) (K : Slots) (O : Owns) (room : ℕ) (es : List Entry) (r : Grew) (states count : ℕ) → GrewOk slots K O room es r → r ≡ On states count
-    → Made K O states count room es × (states ≤ slots)
-grew_on slots K O room es r states count q e = subst (λ (g : Grew). GrewOk slots K O room es g) e q
-
-pub grew_full : (slots : ℕ) (K : Slots) (O : Owns) (room : ℕ) (es : List Entry) (r : Grew) → GrewOk slots K O room es r → r ≡ Full
-    → slots < length (names alphabet es)
-grew_full slots K O room es r q e = subst (λ (g : Grew). GrewOk slots K O room es g) e q
+-- an answer handed on from states that pass the slots
+pub grew_few : (slots : ℕ) (K : Slots) (O : Owns) (room : ℕ) (es : List Entry) (r : Result Grown FewStates) → IsErr r → slots < length (names alphabet es)
+    → GrewOk slots K O room es r
+grew_few slots K O room es (Ok grown) e l = absurd (clash e refl)
+grew_few slots K O room es (Err few) e l = l
 
 -- the same, for another way to say how many slots there are
 pub looked_room : {drops : Bool} {ps : List (List ℕ)} {K : Slots} {O : Owns} {states count room i : ℕ} (more : ℕ) → more ≡ room

@@ -14,19 +14,20 @@ use Rattle.plan.specs.Names.{has, along}
 use Rattle.plan.proofs.Names.{more_length, more_new, has_at, along_long, along_old, along_new, along_end}
 use Rattle.trie.specs.Trie.{Slots, Kid, Trie, Gap, Inserted}
 use Rattle.trie.specs.Answers.{Grown, Located}
-use Rattle.trie.specs.declared.TrieId.{TrieId}
-use Rattle.trie.specs.declared.Place.{Place}
-use Rattle.trie.specs.declared.Place.TheVariants.{At, Between}
 use Rattle.list.specs.Limits.{alphabet}
+use Rattle.std.specs.Prelude.{Result, Ok, Err}
+use Rattle.trie.specs.declared.TrieId.{TrieId}
+use Rattle.trie.specs.declared.Gap.{Gap as Neighbours}
 use Rattle.trie.proofs.Growing.{grown}
 
--- what an answer says, by its case
-pub located_at : (names : List (List ℕ)) (s b : ℕ) (r : Place) (t : TrieId) → Located names s b r → r ≡ At t → Kid alphabet names (get_or names s []) b t.0
-located_at names s b r t q e = subst (λ (x : Place). Located names s b x) e q
+-- what an answer of `locate` says, by its case
+pub located_at : (names : List (List ℕ)) (s b : ℕ) (r : Result TrieId Neighbours) (t : TrieId) → Located names s b r → r ≡ Ok t
+    → Kid alphabet names (get_or names s []) b t.0
+located_at names s b r t q e = subst (λ (x : Result TrieId Neighbours). Located names s b x) e q
 
-pub located_between : (names : List (List ℕ)) (s b : ℕ) (r : Place) (prev next : TrieId) → Located names s b r → r ≡ Between prev next
-    → Gap alphabet names (get_or names s []) b prev.0 next.0
-located_between names s b r prev next q e = subst (λ (x : Place). Located names s b x) e q
+pub located_between : (names : List (List ℕ)) (s b : ℕ) (r : Result TrieId Neighbours) (gap : Neighbours) → Located names s b r → r ≡ Err gap
+    → Gap alphabet names (get_or names s []) b gap.prev.0 gap.next.0
+located_between names s b r gap q e = subst (λ (x : Result TrieId Neighbours). Located names s b x) e q
 
 take_snoc : (w : List ℕ) (i : ℕ) → i < length w → take (i + 1) w ≡ snoc (take i w) (get_or w i 0)
 take_snoc w i h = rw (add-one, take-suc w i 0) (sym (snoc_is (take i w) (get_or w i 0)))

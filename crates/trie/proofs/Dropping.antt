@@ -14,7 +14,8 @@ use lib.Seq.{take-suc, length-take-le}
 use Rattle.paper.specs.Lists.{prefix, snoc, is_nil}
 use Rattle.paper.specs.Patterns.{Entry, barred, proper_prefix}
 use Rattle.paper.specs.Automaton.{is_state, own_of}
-use Rattle.paper.proofs.Tests.{clash, not_true→false, or_left, or_right, and_left, and_right, and_both, lt_ltb, ltb_lt, ne_eqb}
+use Rattle.std.proofs.lemmas.Bool.{false_from_ne_true, or_left, or_right, and_from, lt-ltb, ltb-true, ne_eqb, and_parts}
+use Rattle.paper.proofs.Tests.{clash}
 use Rattle.paper.proofs.Strings.{prefix_append, prefix_of, prefix_same, prefix_length, snoc_is}
 use Rattle.paper.proofs.Leftmost.{own_entry, own_some, to_own, entry_state}
 use Rattle.plan.specs.Names.{has}
@@ -35,7 +36,7 @@ pub barred_out : (es : List Entry) (q : List ℕ) → ((x : Entry) → Memᴰ x 
 unfolding barred
 barred_out [] q h = refl
 barred_out (y ∷ es) q h =
-    rw (not_true→false (proper_prefix y.word q) (λ e. h y (Memᴰ.head refl) e)) (barred_out es q (λ x m e. h x (Memᴰ.tail m) e))
+    rw (false_from_ne_true (proper_prefix y.word q) (λ e. h y (Memᴰ.head refl) e)) (barred_out es q (λ x m e. h x (Memᴰ.tail m) e))
 
 -- ---- prefixes by length
 
@@ -71,8 +72,8 @@ module _ {a : ℕ} {K : Slots} {names : List (List ℕ)} {es : List Entry} (I : 
         let e = own_entry es (get_or names s []) (own_of es (get_or names s [])) refl some in
         let word : e.0.word ≡ take i w = e.2 ∙ W.named in
         barred_in es w e.0 e.1
-        (rw word (and_both (prefix (take i w) w) (ltb (length (take i w)) (length w)) (take_prefix w i)
-        (lt_ltb (length (take i w)) (length w) (omega (arith, length-take-le i w (omega arith))))))
+        (rw word (and_from (prefix (take i w) w) (ltb (length (take i w)) (length w)) (take_prefix w i)
+        (lt-ltb (length (take i w)) (length w) (omega (arith, length-take-le i w (omega arith))))))
 
     -- none here: no entry of this length either
     pub passed : K.own s ≡ 0 → (x : Entry) → Memᴰ x es → prefix x.word w ≡ true → length x.word < suc i → ⊥
@@ -90,7 +91,7 @@ module _ {a : ℕ} {K : Slots} {names : List (List ℕ)} {es : List Entry} (I : 
     pub missing : K.own s ≡ 0 → has names (snoc (get_or names s []) (get_or w i 0)) ≡ false → barred es w ≡ false
     missing z g =
         barred_out es w (λ x m p.
-        let begins = and_left (prefix x.word w) (ltb (length x.word) (length w)) p in
+        let begins = (and_parts (prefix x.word w) (ltb (length x.word) (length w)) p).0 in
         elim (dec_lt (length x.word) (suc i)) [
           | yes k ↦ passed z x m begins k
           | no k ↦
@@ -112,5 +113,5 @@ module _ {a : ℕ} {K : Slots} {names : List (List ℕ)} {es : List Entry} (I : 
 
   pub through : {w : List ℕ} {s i : ℕ} → Walking a K names es w s i → i ≡ length w → barred es w ≡ false
   through {w} {s} {i} W e =
-      barred_out es w (λ x m p. W.none x m (and_left (prefix x.word w) (ltb (length x.word) (length w)) p)
-      (omega (arith, ltb_lt (length x.word) (length w) (and_right (prefix x.word w) (ltb (length x.word) (length w)) p))))
+      barred_out es w (λ x m p. W.none x m (and_parts (prefix x.word w) (ltb (length x.word) (length w)) p).0
+      (omega (arith, ltb-true (length x.word) (length w) (and_parts (prefix x.word w) (ltb (length x.word) (length w)) p).1)))

@@ -11,7 +11,8 @@ use lib.ListN.{length, get_or, set, length-append}
 use Rattle.paper.specs.Lists.{pick, same, snoc, is_nil, those}
 use Rattle.paper.specs.Patterns.{Entry}
 use Rattle.paper.specs.Automaton.{is_state, own_of}
-use Rattle.paper.proofs.Tests.{test, not_true→false, ne_eqb, lt_ltb}
+use Rattle.std.proofs.lemmas.Bool.{false_from_ne_true, ne_eqb, lt-ltb}
+use Rattle.paper.proofs.Tests.{test}
 use Rattle.paper.proofs.Strings.{same_eq, same_refl, prefix_refl}
 use Rattle.paper.proofs.Leftmost.{own_entry, entry_state}
 use Rattle.list.specs.Limits.{alphabet}
@@ -21,10 +22,7 @@ use Rattle.plan.specs.Names.{has, made, along, names_from, root_and_dead, names,
 use Rattle.plan.proofs.Names.{index, has_from, root_has, more_old, made_long, along_long}
 use Rattle.trie.specs.Trie.{Slots, slots_of, with_own, Trie}
 use Rattle.trie.specs.Owned.{Owned, Covers, Owns, owns_of, owns_with, Pile, Piled}
-use Rattle.trie.specs.Answers.{Grown, AddedOk}
-use Rattle.trie.specs.declared.TrieId.{TrieId}
-use Rattle.trie.specs.declared.Added.{Added}
-use Rattle.trie.specs.declared.Added.TheVariants.{To, Full}
+use Rattle.trie.specs.Answers.{Grown}
 use Rattle.trie.specs.Made.{Made}
 use Rattle.trie.proofs.Inserting.{kept_field}
 
@@ -66,7 +64,7 @@ own_here : (es : List Entry) (x : Entry) → own_of (es ++ (x ∷ [])) x.word �
 own_here es x = own_more es x x.word ∙ rw (same_refl x.word)
 
 own_there : (es : List Entry) (x : Entry) (s : List ℕ) → (x.word ≡ s → ⊥) → own_of (es ++ (x ∷ [])) s ≡ own_of es s
-own_there es x s n = own_more es x s ∙ rw (not_true→false (same x.word s) (λ e. n (same_eq x.word s e))) (append-nil (own_of es s))
+own_there es x s n = own_more es x s ∙ rw (false_from_ne_true (same x.word s) (λ e. n (same_eq x.word s e))) (append-nil (own_of es s))
 
 not_nil_snoc : (l : List Entry) (x : Entry) → is_nil (l ++ (x ∷ [])) ≡ false
 not_nil_snoc [] x = refl
@@ -191,7 +189,7 @@ module _ (rows owns grown : List (List ℕ)) (es : List Entry) (states count sta
 
   -- the slots of outputs, where there is one more
   noted : count < length owns → owns_with owns count row (field grown state 4) ≡ set owns count (row ∷ field grown state 4 ∷ [])
-  noted l = rw (lt_ltb count (length owns) l)
+  noted l = rw (lt-ltb count (length owns) l)
 
   made_piled : count + 1 ≤ length owns → Piled (slots_of after) (owns_of (owns_with owns count row (field grown state 4))) (count + 1) new (es ++ (x ∷ []))
   made_piled l k h z =
@@ -229,11 +227,3 @@ module _ (rows owns grown : List (List ℕ)) (es : List Entry) (states count sta
         owned = rw same made_owned;
         piled = λ l. rw same (made_piled l);
       }
-
--- what an answer says, by its case
-pub added_to : (slots : ℕ) (K L : Slots) (ns : List (List ℕ)) (w : List ℕ) (r : Added) (state : TrieId) (states : ℕ) → AddedOk slots K L ns w r → r ≡ To state states
-    → Grown K L ns w state.0 states × (states ≤ slots)
-added_to slots K L ns w r state states q e = subst (λ (a : Added). AddedOk slots K L ns w a) e q
-
-pub added_full : (slots : ℕ) (K L : Slots) (ns : List (List ℕ)) (w : List ℕ) (r : Added) → AddedOk slots K L ns w r → r ≡ Full → slots < length (along ns [] w)
-added_full slots K L ns w r q e = subst (λ (a : Added). AddedOk slots K L ns w a) e q

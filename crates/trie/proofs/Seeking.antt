@@ -1,17 +1,15 @@
 -- The walk along the children of a state by rising byte.
 use mathlib.Core.Path.{◌≡◌, refl}
 use mathlib.Core.List.{List}
-use Prim.Native.Nat.{ℕ, suc, ◌-◌, ◌≤◌, ◌<◌}
+use Prim.Native.Nat.{ℕ, suc, ◌≤◌, ◌<◌}
 use native.Mathlib.Omega.{arith}
 use lib.Dec.{eqb}
 use lib.ListN.{length}
-use Rattle.paper.specs.Lists.{pick}
-use Rattle.paper.proofs.Tests.{test, ne_eqb, eqb_ne}
-use Rattle.trie.specs.Trie.{Slots, Kid, Least, Trie, After, Gap}
-
--- what is left of the children at t, as a number that falls
-abbrev pub rank : ℕ → Slots → ℕ → ℕ
-rank a K t = pick (eqb t 0) 0 (a - K.label t)
+use Rattle.std.proofs.lemmas.Bool.{ne_eqb, eqb-false}
+use Rattle.paper.proofs.Tests.{test}
+use Rattle.trie.specs.Trie.{Slots, slots_of, Kid, Least, Trie, After, Gap}
+use Rattle.list.specs.Limits.{alphabet}
+use Rattle.trie.specs.Children.{Walks, rank}
 
 -- the next child at or after a byte, as the loops over children meet it
 module _ {a : ℕ} {K : Slots} {names : List (List ℕ)} (I : Trie a K names) {u : List ℕ} {lo t : ℕ} (l : Least a names u lo t) (nz : t ≡ 0 → ⊥) where
@@ -28,13 +26,13 @@ module _ {a : ℕ} {K : Slots} {names : List (List ℕ)} (I : Trie a K names) {u
   pub least_next : Least a names u (suc (K.label t)) (K.sibling t)
   least_next = let k = l.some nz in rw least_label (I.next t l.stop u k.inside k.byte k.named)
 
-  pub least_falls : rank a K (K.sibling t) < rank a K t
+  least_falls : rank a K (K.sibling t) < rank a K t
   least_falls =
       let k = l.some nz in
       let n = least_next in
       rw (ne_eqb t 0 nz)
       (test (eqb (K.sibling t) 0) (λ z. rw z (omega (arith, least_label, k.byte)))
-      (λ z. let j = n.some (eqb_ne (K.sibling t) 0 z) in
+      (λ z. let j = n.some (eqb-false (K.sibling t) 0 z) in
       rw z (omega (arith, least_label, I.labelled (K.sibling t) n.stop u j.inside j.byte j.named, n.low, j.byte, k.byte))))
 
 -- at t, with prev passed: the byte b is not before lo
@@ -80,3 +78,15 @@ module _ {a : ℕ} {K : Slots} {names : List (List ℕ)} (I : Trie a K names) wh
           front = λ z. absurd (nz z);
           after = λ z. record { byte = K.label t; lo_is = refl; kid = least_kid I q.least nz };
         }
+
+-- a walk along children goes on from the next sibling, with fewer of them left
+pub walks_on : {rows : List (List ℕ)} {t : ℕ} (W : Walks rows t) → (t ≡ 0 → ⊥)
+    → Walks rows ((slots_of rows).sibling t) × (rank alphabet (slots_of rows) ((slots_of rows).sibling t) < rank alphabet (slots_of rows) t)
+walks_on {rows} {t} W nz = (
+  record { names = W.names; trie = W.trie; room = W.room; parent = W.parent; lo = suc ((slots_of rows).label t); least = least_next W.trie W.least nz },
+  least_falls W.trie W.least nz,
+)
+
+-- a state of the walk has a row
+pub walks_room : {rows : List (List ℕ)} {t : ℕ} (W : Walks rows t) → (t ≡ 0 → ⊥) → t < length rows
+walks_room W nz = omega (arith, least_inside W.trie W.least nz, W.room)

@@ -7,7 +7,7 @@ use native.Mathlib.Omega.{arith}
 use lib.ListN.{length, get_or}
 use Rattle.paper.specs.Lists.{same, snoc, those}
 use Rattle.paper.specs.Automaton.{own_of}
-use Rattle.paper.proofs.Tests.{ne_eqb, eq_eqb}
+use Rattle.std.proofs.lemmas.Bool.{ne_eqb, eq-eqb}
 use Rattle.paper.proofs.Strings.{snoc_byte}
 use Rattle.list.specs.Limits.{alphabet}
 use Rattle.zeros.specs.Rows.{field}
@@ -25,7 +25,7 @@ module _ (a : ℕ) where
 
   no_dead_child : (d : ℕ) → has (root_and_dead a) (snoc (a ∷ []) d) ≡ false
   unfolding root_and_dead has same
-  no_dead_child d = rw (eq_eqb a a refl)
+  no_dead_child d = rw (eq-eqb a a refl)
 
   leaf : (u : List ℕ) (t : ℕ) → t ≡ 0 → ((d : ℕ) → d < a → has (root_and_dead a) (snoc u d) ≡ false) → Least a (root_and_dead a) u 0 t
   leaf u t z h = record { stop = a; low = omega arith; gap = λ d l b. h d b; none = λ e. refl; some = λ nz. absurd (nz z) }

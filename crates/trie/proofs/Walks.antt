@@ -8,7 +8,7 @@ use lib.ListN.{length, get_or}
 use Rattle.paper.specs.Lists.{same, snoc}
 use Rattle.paper.specs.Patterns.{Entry}
 use Rattle.paper.specs.Automaton.{is_state}
-use Rattle.paper.proofs.Tests.{not_true→false}
+use Rattle.std.proofs.lemmas.Bool.{false_from_ne_true}
 use Rattle.paper.proofs.Strings.{same_eq, snoc_byte}
 use Rattle.list.specs.Limits.{alphabet}
 use Rattle.plan.specs.Names.{has, names}
@@ -17,11 +17,11 @@ use Rattle.plan.proofs.Names.{has_at, has_names}
 use Rattle.trie.specs.Trie.{slots_of, Kid, Least}
 use Rattle.trie.specs.Stands.{Stands}
 use Rattle.trie.proofs.Kids.{bytes_on, bytes_all, bytes_none, bytes_some}
-use Rattle.trie.proofs.Seeking.{rank, least_label, least_kid, least_next, least_falls}
+use Rattle.trie.proofs.Seeking.{least_label, least_kid, least_next}
 
 -- a string that ends in a byte is not dead's name
 not_dead : (a : ℕ) (u : List ℕ) (c : ℕ) → c < a → same (snoc u c) (a ∷ []) ≡ false
-not_dead a u c h = not_true→false (same (snoc u c) (a ∷ [])) (λ e. omega (arith, snoc_byte u [] c a (same_eq (snoc u c) (a ∷ []) e)))
+not_dead a u c h = false_from_ne_true (same (snoc u c) (a ∷ [])) (λ e. omega (arith, snoc_byte u [] c a (same_eq (snoc u c) (a ∷ []) e)))
 
 -- among strings that end in a byte the names are the states
 pub agree : (es : List Entry) (u : List ℕ) (c : ℕ) → c < alphabet → has (names alphabet es) (snoc u c) ≡ is_state es (snoc u c)
@@ -51,10 +51,6 @@ module _ {es : List Entry} {rows : List (List ℕ)} (T : Stands es rows) where
       pub walk_kid : Kid alphabet (names alphabet es) u ((slots_of rows).label t) t
       walk_kid = least_kid T.trie W.least nz
 
-      -- it has a row
-      pub walk_room : t < length rows
-      walk_room = omega (arith, walk_kid.inside, T.room)
-
       kid_state : is_state es (snoc u W.least.stop) ≡ true
       kid_state =
           let k = W.least.some nz in
@@ -83,6 +79,3 @@ module _ {es : List Entry} {rows : List (List ℕ)} (T : Stands es rows) where
       pub next_low : walk_next.low ≡ suc ((slots_of rows).label t)
       unfolding walk_next
       next_low = refl
-
-      pub walk_falls : rank alphabet (slots_of rows) ((slots_of rows).sibling t) < rank alphabet (slots_of rows) t
-      walk_falls = least_falls T.trie W.least nz

@@ -3,3 +3,4 @@ pub mod Owned
 pub mod Answers
 pub mod Made
 pub mod Stands
+pub mod Children

@@ -1,5 +1,5 @@
 -- The tables after some patterns were accepted.
-use Rattle.std.specs.Prelude.{◌≡◌, Bool, true, false, ◌&&◌, List, [], ◌∷◌, ◌++◌, ℕ, ◌≤◌, ◌<◌, length, get_or}
+use Rattle.std.specs.Prelude.{◌≡◌, Bool, true, false, ◌&&◌, List, [], ◌∷◌, ◌++◌, ℕ, ◌≤◌, ◌<◌, length, get_or, Result, Ok, Err}
 use Rattle.paper.specs.Lists.{pick}
 use Rattle.paper.specs.Patterns.{Entry, Kind, standard, leftmost, longest, first, barred}
 use Rattle.list.specs.Limits.{alphabet, most_listed, most_bytes}
@@ -8,8 +8,8 @@ use Rattle.list.specs.Claims.{SoundEnds}
 use Rattle.plan.specs.Names.{names}
 use Rattle.trie.specs.Trie.{Slots, slots_of, Trie}
 use Rattle.trie.specs.Owned.{Owned, Owns, owns_of, Piled}
-use Rattle.trie.specs.declared.Grew.{Grew}
-use Rattle.trie.specs.declared.Grew.TheVariants.{On, Full}
+use Rattle.trie.specs.declared.Grown.{Grown}
+use Rattle.trie.specs.declared.FewStates.{FewStates}
 
 -- what is asked of a lent list: sound ends, not too many patterns, none too long
 pub record Parted (bytes ends : List ℕ) : Type 0 where
@@ -51,6 +51,6 @@ accept_on drops es [] = es
 accept_on drops es (x ∷ xs) = accept_on drops (grown_by drops es x) xs
 
 -- the tables have grown within the slots; or the states would pass them
-abbrev pub GrewOk : ℕ → Slots → Owns → ℕ → List Entry → Grew → Type 0
-GrewOk slots K O room es (On states accepted) = Made K O states accepted room es × (states ≤ slots)
-GrewOk slots K O room es Full = slots < length (names alphabet es)
+abbrev pub GrewOk : ℕ → Slots → Owns → ℕ → List Entry → Result Grown FewStates → Type 0
+GrewOk slots K O room es (Ok grown) = Made K O grown.states grown.accepted room es × (grown.states ≤ slots)
+GrewOk slots K O room es (Err few) = slots < length (names alphabet es)

@@ -8,15 +8,20 @@ ghost use Rattle.list.specs.Limits.{alphabet, most_bytes, most_listed};
 ghost use Rattle.trie.specs.Trie.{slots_of, Trie, Inserted, with_root_and_dead, with_new, with_first, with_sibling, with_own};
 ghost use Rattle.paper.specs.Patterns.{Entry, barred, rows};
 ghost use Rattle.list.specs.Listed.{patterns_of};
+ghost use Rattle.list.specs.Claims.{Bytes};
 ghost use Rattle.trie.specs.Owned.{Owned, Covers, owns_of, owns_with};
 ghost use Rattle.trie.specs.Made.{Parted, Made, MadeSome, GrewOk, grown_by, accept_on, entry};
+ghost use Rattle.std.specs.Iterator.{at_most};
+ghost use Rattle.trie.specs.Children.{Walks, Gives, Begun, rank};
 ghost use Rattle.trie.specs.Answers.{Known, Counted, Located, AddedOk};
 
 // A trie number: the place of a state in the order in which states were made.
-#[derive(Clone, Copy)]
+#[derive(Clone, Copy, Debug, PartialEq, Eq)]
 pub struct TrieId(pub u32);
 
-// The fields of a state's row.
+// The fields of a state's row. Rows are numbers and no structs, since C lends them. Each field is read by a name of its own below: a
+// reader that takes the field as a number would say less where it is called. A child, a sibling or an own output that is not there is 0 in
+// the lent rows, and stays 0 (root, for a state) in what is read.
 const FIRST: usize = 0;
 
 const SIBLING: usize = 1;
@@ -32,8 +37,7 @@ pub fn first_child(trie: &[[u32; 5]], s: TrieId) -> TrieId
     requires { s.0 < length trie.now }
     ensures { result.0 ≡ field trie.now s.0 0 }
 {
-    let k = s.0 as usize;
-    TrieId(trie[k][FIRST])
+    TrieId(trie[s.0 as usize][FIRST])
 }
 
 // The child of the same parent with the next higher byte; root where there is none.
@@ -41,8 +45,7 @@ pub fn next_sibling(trie: &[[u32; 5]], s: TrieId) -> TrieId
     requires { s.0 < length trie.now }
     ensures { result.0 ≡ field trie.now s.0 1 }
 {
-    let k = s.0 as usize;
-    TrieId(trie[k][SIBLING])
+    TrieId(trie[s.0 as usize][SIBLING])
 }
 
 // The byte that leads to a state.
@@ -50,8 +53,7 @@ pub fn label(trie: &[[u32; 5]], s: TrieId) -> u32
     requires { s.0 < length trie.now }
     ensures { result ≡ field trie.now s.0 2 }
 {
-    let k = s.0 as usize;
-    trie[k][LABEL]
+    trie[s.0 as usize][LABEL]
 }
 
 // The length of a state's string.
@@ -59,8 +61,7 @@ pub fn depth(trie: &[[u32; 5]], s: TrieId) -> u32
     requires { s.0 < length trie.now }
     ensures { result ≡ field trie.now s.0 3 }
 {
-    let k = s.0 as usize;
-    trie[k][DEPTH]
+    trie[s.0 as usize][DEPTH]
 }
 
 // The latest own output of a state, counted from 1; 0 where it has none.
@@ -68,76 +69,96 @@ pub fn own(trie: &[[u32; 5]], s: TrieId) -> u32
     requires { s.0 < length trie.now }
     ensures { result ≡ field trie.now s.0 4 }
 {
-    let k = s.0 as usize;
-    trie[k][OWN]
+    trie[s.0 as usize][OWN]
 }
 
-// A byte as the rows hold it.
-fn wide(byte: u8) -> u32
-    ensures { (result ≡ byte) × (result < alphabet) }
+// The children of a state by rising byte.
+#[derive(Clone, Copy, Drop)]
+pub struct Siblings<'a> {
+    trie: &'a [[u32; 5]],
+    // The child that comes next; root where none is left.
+    next: TrieId,
+}
+
+impl Iterator for Siblings<'_> {
+    type Item = TrieId;
+
+    ghost can_next = { λ s. Walks s.trie.now s.next.0 };
+
+    ghost next_gives = { λ s r t. (t.trie ≡ s.trie) × Gives s.trie.now s.next.0 r t.next.0 };
+
+    ghost remaining = { λ s. at_most (rank alphabet (slots_of s.trie.now) s.next.0) };
+
+    fn next(&mut self) -> Option<TrieId> {
+        let child = self.next;
+        if child.0 == 0 {
+            return None;
+        }
+        self.next = next_sibling(self.trie, child);
+        Some(child)
+    }
+}
+
+// Callers show that the rows are a trie's, so the walk ends.
+pub fn children(trie: &[[u32; 5]], s: TrieId) -> Siblings<'_>
+    requires { Known trie.now s.0 }
+    ensures { Begun trie.now s.0 result }
 {
-    byte as u32
+    Siblings {
+        trie,
+        next: first_child(trie, s),
+    }
 }
 
-// Where a byte stands among the children of a state, or between which two it would go.
-#[derive(Clone, Copy)]
-pub enum Place {
-    At(TrieId),
-    Between { prev: TrieId, next: TrieId },
+// Between which two children of a state a byte that none of them has would go; root where there is none.
+#[derive(Clone, Copy, Debug, PartialEq, Eq)]
+pub struct Gap {
+    pub prev: TrieId,
+    pub next: TrieId,
 }
 
-pub fn locate(trie: &[[u32; 5]], s: TrieId, byte: u32) -> Place
+// Where a byte stands among the children of a state.
+pub fn locate(trie: &[[u32; 5]], s: TrieId, byte: u32) -> Result<TrieId, Gap>
     requires { Known trie.now s.0 × (byte < alphabet) }
     ensures { (names : List (List ℕ)) → Trie alphabet (slots_of trie.now) names → s.0 < length names → Located names s.0 byte result }
 {
     let mut prev = TrieId(0);
-    let mut t = first_child(trie, s);
-    while t.0 != 0 {
+    for t in children(trie, s) {
         let c = label(trie, t);
         if c == byte {
-            return Place::At(t);
+            return Ok(t);
         }
         if byte < c {
-            return Place::Between {
-                prev: prev,
-                next: t,
-            };
+            return Err(Gap { prev, next: t });
         }
         prev = t;
-        t = next_sibling(trie, t);
     }
-    Place::Between {
-        prev: prev,
+    Err(Gap {
+        prev,
         next: TrieId(0),
-    }
+    })
 }
 
-// Each of the three writes one field and keeps the row's others.
+// Each of the three writes one field.
 fn set_first(trie: &mut [[u32; 5]], s: TrieId, t: TrieId)
     requires { s.0 < length trie.old }
     ensures { trie.new ≡ with_first trie.old s.0 t.0 }
 {
-    let k = s.0 as usize;
-    let old = trie[k];
-    trie[k] = [t.0, old[1], old[2], old[3], old[4]];
+    trie[s.0 as usize][FIRST] = t.0;
 }
 
 fn set_sibling(trie: &mut [[u32; 5]], s: TrieId, t: TrieId)
     requires { s.0 < length trie.old }
     ensures { trie.new ≡ with_sibling trie.old s.0 t.0 }
 {
-    let k = s.0 as usize;
-    let old = trie[k];
-    trie[k] = [old[0], t.0, old[2], old[3], old[4]];
+    trie[s.0 as usize][SIBLING] = t.0;
 }
 
 fn set_own(trie: &mut [[u32; 5]], s: TrieId, own: u32)
     requires { s.0 < length trie.old }
     ensures { trie.new ≡ with_own trie.old s.0 own }
 {
-    let k = s.0 as usize;
-    let old = trie[k];
-    trie[k] = [old[0], old[1], old[2], old[3], own];
+    trie[s.0 as usize][OWN] = own;
 }
 
 // A state with no child and no own output.
@@ -145,8 +166,7 @@ fn set_new(trie: &mut [[u32; 5]], n: TrieId, next: TrieId, byte: u32, depth: u32
     requires { n.0 < length trie.old }
     ensures { trie.new ≡ with_new trie.old n.0 next.0 byte depth }
 {
-    let i = n.0 as usize;
-    trie[i] = [0, next.0, byte, depth, 0];
+    trie[n.0 as usize] = [0, next.0, byte, depth, 0];
 }
 
 // A new state n, the child of s on a byte, between two of its children.
@@ -170,14 +190,19 @@ fn insert(
     }
 }
 
+// The next state would pass the slots.
+#[derive(Clone, Copy, Debug, PartialEq, Eq)]
+pub struct FewStates;
+
+// The state of a pattern, and how many states there are with those that were made for it.
 #[derive(Clone, Copy)]
-pub enum Added {
-    To { state: TrieId, states: u32 },
-    Full,
+struct Added {
+    state: TrieId,
+    states: u32,
 }
 
-// The states of one pattern: those that are there, then those that are made. Full where the next one would pass the slots.
-fn add(trie: &mut [[u32; 5]], states: u32, slots: u32, part: &[u8]) -> Added
+// The states of one pattern: those that are there, then those that are made.
+fn add(trie: &mut [[u32; 5]], states: u32, slots: u32, part: &[u8]) -> Result<Added, FewStates>
     requires counted { Counted trie.old states }
     requires states_le_slots { (states ≤ slots) × (slots ≤ length trie.old) × (length part.now ≤ most_bytes) }
     ensures { (names : List (List ℕ)) → Trie alphabet (slots_of trie.old) names → states ≡ length names
@@ -185,28 +210,26 @@ fn add(trie: &mut [[u32; 5]], states: u32, slots: u32, part: &[u8]) -> Added
 {
     let mut n = states;
     let mut s = TrieId(0);
-    let mut i: usize = 0;
-    while i < part.len() {
-        let byte = wide(part[i]);
+    for (i, letter) in part.iter().enumerate() {
+        let byte = u32::from(*letter);
         match locate(trie, s, byte) {
-            Place::At(t) => {
+            Ok(t) => {
                 s = t;
             }
-            Place::Between { prev, next } => {
+            Err(gap) => {
                 if slots <= n {
-                    return Added::Full;
+                    return Err(FewStates);
                 }
-                insert(trie, TrieId(n), s, byte, (i + 1) as u32, prev, next);
+                insert(trie, TrieId(n), s, byte, (i + 1) as u32, gap.prev, gap.next);
                 s = TrieId(n);
-                n = n + 1;
+                n += 1;
             }
         }
-        i += 1;
     }
-    Added::To {
+    Ok(Added {
         state: s,
         states: n,
-    }
+    })
 }
 
 // Whether a state before the last byte of a pattern has an own output: then LeftmostFirst drops the pattern. Nothing is written.
@@ -216,16 +239,14 @@ fn is_barred(trie: &[[u32; 5]], part: &[u8]) -> bool
         → Covers names es → result ≡ barred es part.now }
 {
     let mut s = TrieId(0);
-    let mut i: usize = 0;
-    while i < part.len() {
+    for letter in part {
         if own(trie, s) != 0 {
             return true;
         }
-        let Place::At(t) = locate(trie, s, wide(part[i])) else {
+        let Ok(t) = locate(trie, s, u32::from(*letter)) else {
             return false;
         };
         s = t;
-        i += 1;
     }
     false
 }
@@ -236,7 +257,7 @@ fn dropped(trie: &[[u32; 5]], drops: bool, part: &[u8]) -> bool
     ensures { (names : List (List ℕ)) (es : List Entry) → Trie alphabet (slots_of trie.now) names → Owned (slots_of trie.now) names es
         → Covers names es → result ≡ (drops && barred es part.now) }
 {
-    if drops { is_barred(trie, part) } else { false }
+    drops && is_barred(trie, part)
 }
 
 // Root and dead, with no children and no own outputs.
@@ -270,49 +291,40 @@ fn give(trie: &mut [[u32; 5]], owns: &mut [[u32; 2]], s: TrieId, row: u32, k: u3
     set_own(trie, s, k + 1);
 }
 
-#[derive(Clone, Copy)]
-pub enum Grew {
-    On { states: u32, accepted: u32 },
-    Full,
+// How many states there are, root and dead counted, and how many patterns were accepted.
+#[derive(Clone, Copy, Debug, PartialEq, Eq)]
+pub struct Grown {
+    pub states: u32,
+    pub accepted: u32,
 }
 
-// One pattern of the list: dropped, or its states and its own output. Full where its states would pass the slots.
+// One pattern of the list: dropped, or its states and its own output.
 fn add_one(
     trie: &mut [[u32; 5]],
     owns: &mut [[u32; 2]],
     drops: bool,
-    states: u32,
-    accepted: u32,
+    grown: Grown,
     slots: u32,
     row: u32,
     part: &[u8],
-) -> Grew
-    requires made_some { MadeSome trie.old owns.old states accepted }
-    requires states_le_slots { (states ≤ slots) × (slots ≤ length trie.old) × (accepted < most_listed) × (length part.now ≤ most_bytes) }
-    ensures { (es : List Entry) → Made (slots_of trie.old) (owns_of owns.old) states accepted (length owns.old) es
+) -> Result<Grown, FewStates>
+    requires made_some { MadeSome trie.old owns.old grown.states grown.accepted }
+    requires states_le_slots { (grown.states ≤ slots) × (slots ≤ length trie.old) × (grown.accepted < most_listed) × (length part.now ≤ most_bytes) }
+    ensures { (es : List Entry) → Made (slots_of trie.old) (owns_of owns.old) grown.states grown.accepted (length owns.old) es
         → GrewOk slots (slots_of trie.new) (owns_of owns.new) (length owns.old) (grown_by drops es (entry row part.now)) result }
 {
     if dropped(trie, drops, part) {
-        return Grew::On {
-            states: states,
-            accepted: accepted,
-        };
+        return Ok(grown);
     }
-    let Added::To {
-        state,
-        states: grown,
-    } = add(trie, states, slots, part)
-    else {
-        return Grew::Full;
-    };
-    give(trie, owns, state, row, accepted);
-    Grew::On {
-        states: grown,
-        accepted: accepted + 1,
-    }
+    let added = add(trie, grown.states, slots, part)?;
+    give(trie, owns, added.state, row, grown.accepted);
+    Ok(Grown {
+        states: added.states,
+        accepted: grown.accepted + 1,
+    })
 }
 
-// The trie of a whole list (the crate's `NfaBuilder::add`, pattern by pattern). Full where its states, root and dead counted, pass the slots.
+// The trie of a whole list (the crate's `NfaBuilder::add`, pattern by pattern), unless its states, root and dead counted, pass the slots.
 pub fn add_all(
     drops: bool,
     bytes: &[u8],
@@ -320,43 +332,24 @@ pub fn add_all(
     trie: &mut [[u32; 5]],
     owns: &mut [[u32; 2]],
     slots: u32,
-) -> Grew
+) -> Result<Grown, FewStates>
     requires { Parted bytes.now ends.now × (slots ≤ length trie.old) }
-    ensures { GrewOk slots (slots_of trie.new) (owns_of owns.new) (length owns.old)
+    ensures grown { GrewOk slots (slots_of trie.new) (owns_of owns.new) (length owns.old)
         (accept_on drops [] (rows (patterns_of bytes.now ends.now))) result }
+    // Callers that have the bytes in a struct know this of them from here alone, so the list comes by its two slices.
+    ensures letters { Bytes bytes.now }
 {
     if slots < 2 {
-        return Grew::Full;
+        return Err(FewStates);
     }
     begin(trie);
-    let mut states: u32 = 2;
-    let mut accepted: u32 = 0;
-    let mut i: usize = 0;
-    while i < ends.len() {
-        let from = list::pattern_start(ends, i);
-        let to = list::pattern_end(ends, i);
-        let Grew::On {
-            states: more,
-            accepted: given,
-        } = add_one(
-            trie,
-            owns,
-            drops,
-            states,
-            accepted,
-            slots,
-            i as u32,
-            &bytes[from..to],
-        )
-        else {
-            return Grew::Full;
-        };
-        states = more;
-        accepted = given;
-        i += 1;
+    let mut grown = Grown {
+        states: 2,
+        accepted: 0,
+    };
+    for i in 0..ends.len() {
+        let part = &bytes[list::pattern_start(ends, i)..list::pattern_end(ends, i)];
+        grown = add_one(trie, owns, drops, grown, slots, i as u32, part)?;
     }
-    Grew::On {
-        states: states,
-        accepted: accepted,
-    }
+    Ok(grown)
 }

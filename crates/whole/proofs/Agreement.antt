@@ -1,4 +1,5 @@
 -- The tables of a build agree with the accepted patterns: each reader finds in the cells what the layout has there.
+use Rattle.std.specs.Prelude.{Option, Some, None, Result, Ok, Err}
 use mathlib.Core.Path.{◌≡◌, refl, sym, ap, ◌∙◌, subst}
 use mathlib.Core.Bool.{Bool, true, false}
 use mathlib.Core.List.{List, ◌∷◌}
@@ -36,18 +37,14 @@ use Rattle.outputs.proofs.Claims as outputting
 use Rattle.table.specs.Readers.{there}
 use Rattle.table.specs.Claims.{ChildAt}
 use Rattle.table.specs.Agrees.{Tables, probe_in, link_in, place_in, state_cell, target_of, ChainOf, Rooms, Agrees}
-use Rattle.table.specs.declared.Found.{Found}
-use Rattle.table.specs.declared.Found.TheVariants as found
-use Rattle.table.specs.declared.Linked.TheVariants as linked
+use Rattle.table.specs.declared.CellId.{CellId}
+use Rattle.table.specs.declared.Damage.{Damage}
 use Rattle.table.proofs.Claims.{claims}
 use Rattle.table.proofs.Agrees.{cell_root, cell_child}
+use Rattle.whole.specs.CellRules.{nowhere}
 use Rattle.whole.specs.Whole.{cell_count, layout_of, Slots, Enough, tables_with, tables_of}
 use Rattle.whole.proofs.Slots.{column_length, column_at_lem, column_there}
 use Rattle.whole.proofs.Chains.{chain_filled, told_state}
-
--- what is read where no cell is; it is never read
-abbrev nowhere : Cell
-nowhere = record { base = 0; link = 0; output = 0; check = 0; depth = 0 }
 
 module _ (kind : Kind) (es : List Entry) (values : List ℕ) (n : Slots) (P : Proper es) (W : Within alphabet most_bytes es)
     (l : Layout) (F : Full alphabet (is_state es) l) (E : Enough (l.blocks * block) (length es) n) where
@@ -133,7 +130,7 @@ module _ (kind : Kind) (es : List Entry) (values : List ℕ) (n : Slots) (P : Pr
   check_is : (j : ℕ) → j < l.blocks * block → get_or T.check j 0 ≡ check_of block l j
   check_is j h = slot (λ x. x.check) n.check j h ∙ cell_check block l (link M) stored.place j
 
-  finds : (s : List ℕ) (c : ℕ) → S (snoc s c) ≡ true → probe_in T (state_cell T s) c ≡ found.At (record { 0 = state_cell T (snoc s c) })
+  finds : (s : List ℕ) (c : ℕ) → S (snoc s c) ≡ true → probe_in T (state_cell T s) c ≡ Ok (Some (record { 0 = state_cell T (snoc s c) }))
   finds s c h =
       let k = bounded.closed s c h in
       (claims.finds T.base T.check T.cells (state_cell T s) c (state_cell T (snoc s c))).1
@@ -160,14 +157,14 @@ module _ (kind : Kind) (es : List Entry) (values : List ℕ) (n : Slots) (P : Pr
       let byte : check_of block l t ≡ c = sym (check_is t low) ∙ C.byte in
       (probe_exact alphabet most_bytes bytes S bounded l F s c).0 (λ z. C.parent (base_is s h ∙ z), rw (← at) byte)
 
-  finds_none : (s : List ℕ) (c : ℕ) → S s ≡ true → c < alphabet → S (snoc s c) ≡ false → probe_in T (state_cell T s) c ≡ found.Nothing
+  finds_none : (s : List ℕ) (c : ℕ) → S s ≡ true → c < alphabet → S (snoc s c) ≡ false → probe_in T (state_cell T s) c ≡ Ok None
   finds_none s c h b k = go (probe_in T (state_cell T s) c) refl
     where
-      go : (r : Found) → probe_in T (state_cell T s) c ≡ r → probe_in T (state_cell T s) c ≡ found.Nothing
-      go (found.At t) e =
+      go : (r : Result (Option CellId) Damage) → probe_in T (state_cell T s) c ≡ r → probe_in T (state_cell T s) c ≡ Ok None
+      go (Ok (Some t)) e =
           clash (found_child s c t.0 h b ((claims.finds T.base T.check T.cells (state_cell T s) c t.0).0 e)) k
-      go found.Nothing e = e
-      go found.Damage e =
+      go (Ok None) e = e
+      go (Err d) e =
           ⊎_elim (λ z. clash (there_at (λ x. x.base) n.base (state_cell T s) E.base_room (within s h)) z)
           (λ z. clash
           (there_at (λ x. x.check) n.check (bit_xor (get_or T.base (state_cell T s) 0) c) E.check_room (target_within s c h b z.0))
@@ -186,7 +183,7 @@ module _ (kind : Kind) (es : List Entry) (values : List ℕ) (n : Slots) (P : Pr
 
   -- a state that is not root leads to a cell of smaller depth, if that is where its link goes
   leads : (s : List ℕ) (t : ℕ) → S s ≡ true → t ≡ link_cell l (link M s) → t < l.blocks * block → get_or T.depth t 0 < length s
-      → link_in T (state_cell T s) ≡ linked.To (record { 0 = t })
+      → link_in T (state_cell T s) ≡ Ok (record { 0 = t })
   leads s t h e k d =
       (claims.leads T.link T.depth T.cells (state_cell T s) t).1
       (record {
@@ -198,7 +195,7 @@ module _ (kind : Kind) (es : List Entry) (values : List ℕ) (n : Slots) (P : Pr
       })
 
   follows : (x : ℕ) (xs : List ℕ) → S (x ∷ xs) ≡ true
-      → link_in T (state_cell T (x ∷ xs)) ≡ linked.To (record { 0 = target_of T (link M (x ∷ xs)) })
+      → link_in T (state_cell T (x ∷ xs)) ≡ Ok (record { 0 = target_of T (link M (x ∷ xs)) })
   follows x xs h =
       link_cases M laws (x ∷ xs)
       (λ _ e. rw e (leads (x ∷ xs) 1 h (rw e refl) (omega (arith, two)) (omega (arith, dead_depth))))
@@ -262,7 +259,7 @@ module _ (kind : Kind) (es : List Entry) (values : List ℕ) (n : Slots) (P : Pr
       }
 
 -- the range of a look has the last block
-reaches : Reaches first_block
+pub reaches : Reaches first_block
 reaches b = omega arith
 
 pub agrees : (kind : Kind) (es : List Entry) (values : List ℕ) (n : Slots) → Proper es → Within alphabet most_bytes es

@@ -17,18 +17,18 @@ use Rattle.paper.specs.Automaton.{Machine, machine, is_state, link}
 use Rattle.paper.proofs.Tests.{test, clash}
 use Rattle.paper.proofs.Links.{ruled}
 use Rattle.paper.proofs.Machines.{lawful}
-use Rattle.list.specs.Limits.{alphabet, block, most_bytes, window_blocks}
+use Rattle.list.specs.Limits.{alphabet, block, most_bytes}
 use Rattle.plan.specs.Breadth.{kid_bytes, Bounded, Within}
 use Rattle.plan.specs.Groups.{Group}
 use Rattle.plan.specs.Outputs.{Stored}
-use Rattle.plan.specs.Placement.{Layout, one_block, taken_cell, vacant, used_base, place, place_tasks, base_of, cell_of, owner_of, Reaches, Lettered, Good}
+use Rattle.plan.specs.Placement.{Layout, one_block, taken_cell, vacant, used_base, place, place_tasks, base_of, cell_of, owner_of, Lettered, Good}
 use Rattle.plan.specs.Cells.{unused_in, check_of, link_cell, Cell, cell_at, Smallest, Full}
 use Rattle.plan.proofs.Breadth.{in_kid_bytes}
 use Rattle.plan.proofs.Lists.{get_member}
 use Rattle.plan.proofs.Groups.{flat_nil}
 use Rattle.plan.proofs.Machines.{machine_bounded}
 use Rattle.plan.proofs.Layouts.{begun_good, vacant_off, used_in, to_used, zero_unused}
-use Rattle.plan.proofs.Placement.{all_append, all_good, window_reaches}
+use Rattle.plan.proofs.Placement.{all_append, all_good}
 use Rattle.plan.proofs.Owners.{cell_root, groups_full, child_home, placed_base, placed_child, base_once, owner_state, state_owner, taken_owner, vacant_owner}
 use Rattle.plan.proofs.Cells.{cells_length, cells_at}
 use Rattle.plan.proofs.PlacementClaims.{placement}
@@ -37,10 +37,8 @@ use Rattle.groups.specs.Ordered.{groups_of, no_group}
 use Rattle.placement.specs.Laid.{first_block, laid_out}
 use Rattle.outputs.specs.Placed.{all_stored}
 use Rattle.whole.specs.Whole.{layout_of}
+use Rattle.whole.proofs.Agreement.{reaches}
 use Rattle.whole.specs.CellRules.{layout_after, PlacesNext, PlacingRules, nowhere, cell_held, check_alone, InBlock, CellRules}
-
-reaches : Reaches first_block
-reaches = window_reaches window_blocks (omega arith)
 
 -- a block has one smallest unused base
 one_smallest : (l : Layout) (k u v : ℕ) → Smallest block l k u → Smallest block l k v → u ≡ v

@@ -1,5 +1,5 @@
 -- The chains of the outputs, as the reader of outputs gives them.
-use mathlib.Core.Path.{◌≡◌, refl, sym, ap, subst}
+use mathlib.Core.Path.{◌≡◌, refl, sym, ap}
 use mathlib.Core.Bool.{true}
 use mathlib.Core.List.Memᴰ
 use mathlib.Core.List.{List, [], ◌∷◌, Memᴰ}
@@ -13,8 +13,6 @@ use Rattle.paper.specs.Patterns.{Entry, Kind}
 use Rattle.paper.specs.Automaton.{machine, own_of, Link, dead, to, link, onward, chain}
 use Rattle.paper.proofs.Leftmost.{in_own}
 use Rattle.outputs.specs.Claims.{RowsChained}
-use Rattle.table.specs.declared.Begins.{Begins}
-use Rattle.table.specs.declared.Begins.TheVariants as begins
 use Rattle.table.specs.Readers.{there}
 use Rattle.table.specs.Agrees.{Tables, place_in, Chain, ChainOf}
 use Rattle.table.proofs.Claims.{claims}
@@ -66,19 +64,14 @@ none_told : (values : List ℕ) (outs : List (List ℕ)) (count : ℕ) (l : List
 none_told values outs count [] t = refl
 none_told values outs count (x ∷ l) t = absurd (omega (arith, t.0.some_place))
 
-chain_of : (T : Tables) (values : List ℕ) (l : List Entry) (b c : Begins) → b ≡ c → ChainOf T values c l → ChainOf T values b l
-chain_of T values l b c e h = subst (λ (d : Begins). ChainOf T values d l) (sym e) h
-
 pub told_state : (T : Tables) (values : List ℕ) → T.accepted ≤ length T.outs → (i : ℕ) (l : List Entry)
     → there T.cells (length T.output) i ≡ true → ((x : Entry) → Memᴰ x l → 0 < length x.word)
     → RowsChained values T.outs T.accepted (get_or T.output i 0) l → ChainOf T values (place_in T i) l
 told_state T values room i l h f t =
     elim (ℕ_discrete (get_or T.output i 0) 0) [
       | yes z ↦
-          chain_of T values l (place_in T i) begins.Nothing ((claims.without T.output T.cells i).1 (h, z))
-          (none_told values T.outs T.accepted l (rw z at t))
+          rw ((claims.without T.output T.cells i).1 (h, z)) (none_told values T.outs T.accepted l (rw z at t))
       | no z ↦
-          chain_of T values l (place_in T i) (begins.At (get_or T.output i 0))
-          ((claims.begins_at T.output T.cells i (get_or T.output i 0)).1 (record { state = h; place = refl; some_place = z }))
+          rw ((claims.begins_at T.output T.cells i (get_or T.output i 0)).1 (record { state = h; place = refl; some_place = z }))
           (told_chain T values room (get_or T.output i 0) l f t)
     ]

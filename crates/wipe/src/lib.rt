@@ -1,21 +1,11 @@
-// Inner: zero to every element of the lent tables of a build, past the shortest of them too.
+// Inner: zero to every element of the lent tables of a build, past the shortest of them too. The tables come one by one: in a struct of
+// `&mut`s each of them would need a clause more in every contract, that its reference is still the one lent.
 #![tactic(auto)]
 
-ghost use Rattle.std.specs.Prelude.{◌≡◌, length, replicate};
 ghost use Rattle.wipe.specs.Wiped.{WorkingZero, ResultsZero};
 
 use table::Depth;
-
-// The depths, whatever their width is.
-fn zero_depths(s: &mut [Depth])
-    ensures { s.new ≡ replicate (length s.old) 0 }
-{
-    let mut i = 0;
-    while i < s.len() {
-        s[i] = 0;
-        i += 1;
-    }
-}
+use zeros::zero_all;
 
 pub fn wipe_working(
     trie: &mut [[u32; 5]],
@@ -26,10 +16,10 @@ pub fn wipe_working(
     ensures { WorkingZero trie.old owns.old notes.old spots.old
         trie.new owns.new notes.new spots.new }
 {
-    zeros::zero_fives(trie);
-    zeros::zero_pairs(owns);
-    zeros::zero_sixes(notes);
-    zeros::zero_pairs(spots);
+    zero_all(trie);
+    zero_all(owns);
+    zero_all(notes);
+    zero_all(spots);
 }
 
 pub fn wipe_results(
@@ -43,10 +33,10 @@ pub fn wipe_results(
     ensures { ResultsZero base.old link.old output.old check.old depth.old outs.old
         base.new link.new output.new check.new depth.new outs.new }
 {
-    zeros::zero_words(base);
-    zeros::zero_words(link);
-    zeros::zero_words(output);
-    zeros::zero_bytes(check);
-    zero_depths(depth);
-    zeros::zero_triples(outs);
+    zero_all(base);
+    zero_all(link);
+    zero_all(output);
+    zero_all(check);
+    zero_all(depth);
+    zero_all(outs);
 }

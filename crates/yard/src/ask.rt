@@ -1,103 +1,66 @@
 // The words of the command line.
-use desk::text::put;
-use desk::words::{Stand, Wish, end_words, first_wish, goes_on, standing, take_word};
+use desk::words::{Fault, Way, Wish, Word};
 use std::env::{Env, FillError};
-use telling::lines::NAME;
+use telling::lines::{NAME, Name};
+use telling::trouble::Trouble;
 
-// A wish, the lengths of the names that came with it, and the last word that was taken.
-#[derive(Clone, Copy)]
-pub(crate) struct Asked {
-    pub wish: Wish,
-    pub list_size: usize,
-    pub sheet_size: usize,
-    pub word: usize,
+// What is asked of the command.
+#[derive(Drop)]
+pub(crate) enum Asked {
+    Help,
+    Work(Request),
 }
 
-pub(crate) fn name_default(name: &mut [u8; NAME], word: &[u8]) -> usize {
-    put(name, 0, word)
+// A search, whether numbers are wanted, and the names of the two files.
+#[derive(Drop)]
+pub(crate) struct Request {
+    pub way: Way,
+    pub numbers: bool,
+    pub list: Name,
+    pub sheet: Name,
 }
 
-fn keep_name(
-    from: Asked,
-    wish: Wish,
-    word: &[u8],
-    list: &mut [u8; NAME],
-    sheet: &mut [u8; NAME],
-    i: usize,
-) -> Asked {
-    let before = from.wish;
-    if wish.names == before.names {
-        return Asked {
-            wish,
-            list_size: from.list_size,
-            sheet_size: from.sheet_size,
-            word: i,
-        };
-    }
-    if wish.names == 1 {
-        let list_size = put(list, 0, word);
-        return Asked {
-            wish,
-            list_size,
-            sheet_size: 0,
-            word: i,
-        };
-    }
-    let sheet_size = put(sheet, 0, word);
-    Asked {
-        wish,
-        list_size: from.list_size,
-        sheet_size,
-        word: i,
+fn name_of(word: &[u8]) -> Name {
+    let mut name = Name::new();
+    name.put(word);
+    name
+}
+
+// Word i, if there is such a word. It is asked for by its place, since std's `env::args` takes no word that isn't text, and such a word is told here
+// like any other.
+fn word_at(rt: &HostRuntime, i: usize) -> Result<Option<Name>, Trouble<'static>> {
+    let mut room = [0u8; NAME];
+    match rt.arg(i, &mut room) {
+        Ok(size) => Ok(Some(name_of(&room[..size]))),
+        Err(FillError::NotPresent) => Ok(None),
+        Err(FillError::TooLong) => Err(Trouble::Words(Fault::LongWord, Name::new())),
     }
 }
 
-// What is asked after word i, if there is such a word.
-fn take_next(
-    rt: &HostRuntime,
-    from: Asked,
-    list: &mut [u8; NAME],
-    sheet: &mut [u8; NAME],
-    i: usize,
-) -> Option<Asked> {
-    let mut word = [0u8; NAME];
-    let before = from.wish;
-    match rt.arg(i, &mut word) {
-        Ok(size) => {
-            let wish = take_word(before, &word[..size]);
-            Some(keep_name(from, wish, &word[..size], list, sheet, i))
-        }
-        Err(FillError::TooLong) => Some(Asked {
-            wish: standing(before, Stand::LongWord),
-            list_size: 0,
-            sheet_size: 0,
-            word: i,
-        }),
-        Err(FillError::NotPresent) => None,
-    }
-}
-
-pub(crate) fn ask(rt: &HostRuntime, list: &mut [u8; NAME], sheet: &mut [u8; NAME]) -> Asked {
-    let mut asked = Asked {
-        wish: first_wish(),
-        list_size: 0,
-        sheet_size: 0,
-        word: 0,
-    };
+// Without names the files are the crew's own.
+pub(crate) fn ask(rt: &HostRuntime) -> Result<Asked, Trouble<'static>> {
+    let mut wish = Wish::first();
+    let mut list = name_of(b"crew/codes.txt");
+    let mut sheet = name_of(b"crew/sheet.txt");
     for i in 1..usize::MAX {
-        let Some(next) = take_next(rt, asked, list, sheet, i) else {
+        let Some(word) = word_at(rt, i)? else {
             break;
         };
-        asked = next;
-        if !goes_on(asked.wish) {
-            return asked;
+        match wish.take(word.as_bytes()) {
+            Ok(Word::Option) => {}
+            Ok(Word::List) => list = word,
+            Ok(Word::Sheet) => sheet = word,
+            Ok(Word::Help) => return Ok(Asked::Help),
+            Err(fault) => return Err(Trouble::Words(fault, word)),
         }
     }
-    let wish = end_words(asked.wish);
-    Asked {
-        wish,
-        list_size: asked.list_size,
-        sheet_size: asked.sheet_size,
-        word: asked.word,
+    match wish.end() {
+        Ok(()) => Ok(Asked::Work(Request {
+            way: wish.way,
+            numbers: wish.numbers,
+            list,
+            sheet,
+        })),
+        Err(fault) => Err(Trouble::Words(fault, Name::new())),
     }
 }

@@ -1,24 +1,13 @@
-// A whole file, read into a buffer.
+// A whole file, read into a room.
 ghost use Rattle.std.specs.Prelude.{◌≤◌, length};
 
+use std::fs;
 use std::io::Read;
-use std::str::{Utf8Error, from_utf8};
-use std::{fs, io};
+use std::str::from_utf8;
+use telling::trouble::Matter;
 
-#[derive(Drop)]
-pub(crate) enum File {
-    Read(usize),
-    // The buffer is full: the file may go on.
-    Full,
-    // The system says why.
-    Failed(io::Error),
-    // The name is not text, and a file is opened by text alone.
-    NotText(Utf8Error),
-    // What was read is not the whole file, and no reason is known.
-    Cut,
-}
-
-// Reads until the room is full, the file ends or a read fails, and answers how many bytes it put there.
+// Reads until the room is full, the file ends or a read fails, and answers how many bytes it put there. std's `read_to_end` would take memory, and a read
+// that fails would end it.
 fn read_full(file: &mut fs::File, room: &mut [u8]) -> usize
     ensures { result ≤ length room.new }
 {
@@ -32,25 +21,18 @@ fn read_full(file: &mut fs::File, room: &mut [u8]) -> usize
     done
 }
 
-pub(crate) fn read_file(rt: &HostRuntime, name: &[u8], room: &mut [u8]) -> File {
-    let path = match from_utf8(name) {
-        Ok(path) => path,
-        Err(why) => return File::NotText(why),
-    };
-    let mut file = match fs::File::open(rt, path) {
-        Ok(file) => file,
-        Err(why) => return File::Failed(why),
-    };
+// The bytes of a file, or its first ones where they fill the room: then it may go on.
+pub(crate) fn read_file<'a>(
+    rt: &HostRuntime,
+    name: &[u8],
+    room: &'a mut [u8],
+) -> Result<&'a [u8], Matter> {
+    let mut file = fs::File::open(rt, from_utf8(name)?)?;
     let size = read_full(&mut file, room);
-    if size == room.len() {
-        return File::Full;
-    }
     // A read that fails looks like the end of the file to `read_full`. So one more read has to say that it is the end: a folder or a failing disk must not
     // pass for a short file.
-    let mut more = [0u8; 1];
-    match file.read(&mut more) {
-        Ok(0) => File::Read(size),
-        Ok(_) => File::Cut,
-        Err(why) => File::Failed(why),
+    if size < room.len() && file.read(&mut [0u8; 1])? > 0 {
+        return Err(Matter::Unfit("the file cannot be read to its end"));
     }
+    Ok(&room[..size])
 }

@@ -6,7 +6,7 @@ use Rattle.cells.proofs.Checks.{written}
 use Rattle.cells.proofs.write_cells.Goals as goal
 
 pub write_states-requires : goal.write_states-requires
-write_states-requires c = let p = c.requires in record { by_index = readable p.writable; by_index_2 = inside p.writable p.blanks }
+write_states-requires c = let p = c.requires in record { readable = readable p.writable; inside = inside p.writable p.blanks }
 
 pub returns : goal.returns
 returns c = λ es l link_of place_of W B.

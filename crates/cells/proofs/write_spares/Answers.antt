@@ -7,32 +7,23 @@ use native.Mathlib.Omega.{arith}
 use lib.ListN.{length}
 use Rattle.list.specs.Limits.{block}
 use Rattle.cells.specs.Writing.{unused_from}
-use Rattle.cells.proofs.Sparing.{found_some, found_none, found_inside, blocks_none, blocks_more, blocks_past}
+use Rattle.cells.proofs.Sparing.{found_some, found_none, found_inside, blocks_more, blocks_past}
 use Rattle.cells.proofs.write_spares.Goals as goal
-use Rattle.cells.proofs.write_spares.Goals.{in-At, in_default}
-
-pub loop-k-init : goal.loop-k-init
-loop-k-init c = (omega arith, refl, blocks_none)
-
-pub overflow_mul-from : goal.overflow_mul-from
-overflow_mul-from c = omega (arith, c.loop-k-test.true, c.requires.2)
-
-pub unused_base-requires : goal.unused_base-requires
-unused_base-requires c = (omega (arith, c.loop-k-test.true, c.requires.0), omega (arith, c.loop-k-test.true, c.requires.2))
+use Rattle.cells.proofs.write_spares.Goals.{in-Some, in_default}
 
 pub write_spare-requires : goal.write_spare-requires
 write_spare-requires c =
     let k = c.loop-k.k in
     let t = c.loop-k-test.true in
     let p = c.requires in
-    let found : unused_from c.args.spots.now (k * block) ≡ some c.in-At.unused
-    = found_some _ _ _ c.unused_base.ensures _ c.in-At.is in
+    let found : unused_from c.args.spots.now (k * block) ≡ some c.in-Some.unused
+    = found_some _ _ _ c.unused_base.ensures _ c.in-Some.is in
     let r = found_inside _ _ _ found in (
       record {
         number = k;
         whole = refl;
         in_spots = omega (arith, t, p.0);
-        in_check = omega (arith, t, p.1, c.loop-k.invariant.1);
+        in_check = omega (arith, t, p.1, c.loop-k.invariant.0);
         above = r.0;
         below = r.1;
       },
@@ -45,20 +36,12 @@ loop-k-preserved c =
     let said = c.unused_base.ensures in
     rw (add-one l.k)
     (elim c.match-unused_base.branch [
-      | in-At w ↦ (
-        omega (arith, c.loop-k-test.true),
-        ap length w.check-is ∙ w.write_spare.auto.check ∙ l.invariant.1,
-        rw w.check-is (blocks_more l.invariant.2 w.in-At.unused (found_some _ _ _ said _ w.in-At.is) w.write_spare.ensures),
+      | in-Some w ↦ (
+        ap length w.check-is ∙ w.write_spare.auto.check ∙ l.invariant.0,
+        rw w.check-is (blocks_more l.invariant.1 w.in-Some.unused (found_some _ _ _ said _ w.in-Some.is) w.write_spare.ensures),
       )
       | in_default w ↦ (
-        omega (arith, c.loop-k-test.true),
-        ap length w.check-is ∙ l.invariant.1,
-        rw w.check-is (blocks_past l.invariant.2 (found_none _ _ _ said w.in_default.is)),
+        ap length w.check-is ∙ l.invariant.0,
+        rw w.check-is (blocks_past l.invariant.1 (found_none _ _ _ said w.in_default.is)),
       )
     ])
-
-pub returns : goal.returns
-returns c =
-    let l = c.loop-k in
-    let e : l.k ≡ c.args.blocks = omega (arith, l.invariant.0, c.loop-k-test.false) in
-    rw (← e) l.invariant.2

@@ -1,12 +1,8 @@
 -- `write_spares` goes along the blocks.
 use mathlib.Core.Path.{◌≡◌}
-use Prim.Native.Nat.{◌≤◌, ◌-◌}
 use lib.ListN.{length}
 use Rattle.cells.specs.Writing.{BlocksSpared}
 use Rattle.cells.proofs.write_spares.Given as goal
 
 abbrev pub invariant-loop-k : goal.invariant-loop-k
-invariant-loop-k l = (l.k ≤ l.blocks) × (length l.check ≡ length l.initial.check) × BlocksSpared l.spots l.k l.initial.check l.check
-
-abbrev pub decreases-loop-k : goal.decreases-loop-k
-decreases-loop-k l = l.blocks - l.k
+invariant-loop-k l = (length l.check ≡ length l.initial.check) × BlocksSpared l.spots l.k l.initial.check l.check

@@ -9,7 +9,7 @@ returns c =
     cell_written
     c.cell_of-i.ensures
     c.base_of.ensures
-    (c.cell_of-there.ensures ∙ ap (seat_of c.args.notes.now) c.link_of-target.ensures)
+    (c.cell_of-there.ensures ∙ ap (seat_of c.args.automaton.notes.now) c.link_of-target.ensures)
     c.place_of.ensures
     c.byte_of.ensures
     c.depth.ensures

@@ -12,12 +12,9 @@ use Rattle.groups.specs.Ordered.{with_group, with_stacked, Groupable}
 use Rattle.groups.specs.Stack.{Pushable, Pushed}
 use Rattle.groups.proofs.Pushing.{stacked_keeps, stacked_here}
 use Rattle.groups.proofs.Ordering.{Topped, topped, groupable_for, begun, ended, height_room, count_room, state_named}
-use Rattle.groups.proofs.Ordering.{leaf, pushable, risen_room, grouped, still_falls, still_pops}
+use Rattle.groups.proofs.Ordering.{leaf, pushable, risen_room, grouped, still_falls}
 use Rattle.groups.proofs.order_groups.Goals as goal
 use Rattle.groups.proofs.order_groups.Goals.{After-push_children-height, After-set_group, In-loop-height, Then-first_child-ne0}
-
-pub set_stacked-requires : goal.set_stacked-requires
-set_stacked-requires c = let G = c.requires.groupable in omega (arith, G.stands.trie.two, G.notes_room)
 
 pub loop-height-init : goal.loop-height-init
 loop-height-init c = (refl, λ es G e. (_, begun G _ e))
@@ -106,15 +103,9 @@ loop-height-preserved-then-first_child-ne0 c = (
       (_, grouped G P _ c.stacked-s.ensures c.loop-height.invariant.0 child _ _ (pushed (goal.at.loop-height-preserved-then-first_child-ne0 c).After-push_children-height P R)),
 )
 
-pub loop-height-smaller : goal.loop-height-smaller
-loop-height-smaller c = still_pops (length c.set_stacked.new.notes) c.loop-height.count c.loop-height.height c.loop-height-test.true
-
 pub loop-height-preserved : goal.loop-height-preserved
 loop-height-preserved c =
     (c.loop-height.invariant.0, λ es G e. (_, leaf G (top (goal.at.loop-height-preserved c).In-loop-height es G) _ c.stacked-s.ensures (sym c.first_child.ensures ∙ c.if-first_child-ne0.false)))
-
-pub shape_of-notes : goal.shape_of-notes
-shape_of-notes c = c.loop-height.invariant.0 ∙ c.set_stacked.auto.notes
 
 pub returns : goal.returns
 returns c = λ es G.

@@ -1,30 +1,17 @@
 -- `link_all` takes each state in turn from the queue.
-use mathlib.Core.Path.{◌≡◌, refl, sym, ◌∙◌}
+use mathlib.Core.Path.{◌≡◌, sym, ◌∙◌}
 use mathlib.Core.List.{List}
 use Prim.Native.Nat.{ℕ, suc, ◌≤◌, ◌<◌, ◌+◌}
 use native.Mathlib.Omega.{arith}
 use lib.ListN.{length}
 use Rattle.paper.specs.Patterns.{Entry, Kind}
-use Rattle.list.specs.Limits.{alphabet}
-use Rattle.plan.specs.Names.{names}
 use Rattle.links.specs.Notes.{notes_of, with_order, with_link}
 use Rattle.links.specs.Linked.{is_leftmost}
 use Rattle.links.specs.Queue.{Ready, Queued, Turn, Poised}
 use Rattle.links.proofs.Noting.{rooted}
-use Rattle.links.proofs.Rounds.{ready_for, poised_root, place_inside, turned, finished, not_root, grown, begins}
+use Rattle.links.proofs.Rounds.{ready_for, poised_root, place_inside, turned, finished, not_root, grown}
 use Rattle.links.proofs.link_all.Goals as goal
 use Rattle.links.proofs.link_all.Goals.{After-state_at-s, After-stop, At-loop-head}
-
-pub top_children-tops-requires : goal.top_children-tops-requires
-top_children-tops-requires c =
-    let R = c.requires.ready in
-    record { names = names alphabet c.requires.es; trie = R.trie; room = R.trie_room; inside = omega (arith, R.trie.two) }
-
-pub set_order-requires : goal.set_order-requires
-set_order-requires c = let R = c.requires.ready in omega (arith, R.trie.two, R.notes_room)
-
-pub set_link-requires : goal.set_link-requires
-set_link-requires c = let R = c.requires.ready in omega (arith, R.trie.two, R.notes_room, c.set_order.auto.notes)
 
 -- root's turn, for whatever patterns the trie is made of
 first_turn : {kind : Kind} {es : List Entry} {trie : List (List ℕ)} (rows ordered linked : List (List ℕ))
@@ -35,9 +22,6 @@ first_turn rows ordered linked e d R =
 
 pub link_tops-tail-requires : goal.link_tops-tail-requires
 link_tops-tail-requires c = let p = c.requires in record { kind = p.kind; es = p.es; poised = first_turn _ _ _ c.set_link.ensures c.set_order.ensures p.ready }
-
-pub loop-head-init : goal.loop-head-init
-loop-head-init c = (refl, omega arith, λ kind es R m T Q. (Q, begins R Q))
 
 -- after root's turn, as the loop finds it
 lent : (c : goal.At-loop-head) → length c.link_tops-tail.new.notes ≡ length c.args.notes.now
@@ -119,9 +103,6 @@ loop-head-preserved c = (
       let e : c.loop-head.head + 1 ≡ suc c.loop-head.head = omega arith in
       rw e (next, grown R P.turn.queued P.turn.here next),
 )
-
-pub shape_of-notes : goal.shape_of-notes
-shape_of-notes c = c.loop-head.invariant.0 ∙ lent (goal.at.shape_of-notes c).At-loop-head
 
 pub returns : goal.returns
 returns c = λ kind es R m.

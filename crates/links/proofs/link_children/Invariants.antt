@@ -8,7 +8,6 @@ use Rattle.paper.specs.Automaton.{Link}
 use Rattle.list.specs.Limits.{alphabet}
 use Rattle.plan.specs.Names.{names}
 use Rattle.trie.specs.Trie.{slots_of}
-use Rattle.trie.proofs.Seeking.{rank}
 use Rattle.links.specs.Notes.{notes_of}
 use Rattle.links.specs.Queue.{Ready, Tops}
 use Rattle.links.proofs.Queue.{Linking}
@@ -27,9 +26,7 @@ decreases-loop-f l = chain_left (slots_of l.trie) l.f.0
 
 abbrev pub invariant-loop-t : goal.invariant-loop-t
 invariant-loop-t l =
-    (length l.notes ≡ length l.initial.notes)
-    × ((kind : Kind) (es : List Entry) (s h : ℕ) → Setting kind es l.trie l.initial.notes l.tops s h l.tail l.above.0 l.initial.t.0
-    → (lo : ℕ) × Linking kind es (notes_of l.notes) h lo l.t.0 l.end)
-
-abbrev pub decreases-loop-t : goal.decreases-loop-t
-decreases-loop-t l = rank alphabet (slots_of l.trie) l.t.0
+    (goal.iterator-loop-t).can_next l.t-iterator × (goal.iterator-loop-t).is_finite l.t-iterator
+    × (l.t-iterator.trie.now ≡ l.trie) × (length l.notes ≡ length l.initial.notes)
+    × ((kind : Kind) (es : List Entry) (s h : ℕ) → Setting kind es l.trie l.initial.notes l.tops s h l.tail l.above.0 l.initial.t-iterator.next.0
+    → (lo : ℕ) × Linking kind es (notes_of l.notes) h lo l.t-iterator.next.0 l.end)

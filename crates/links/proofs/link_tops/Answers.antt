@@ -1,55 +1,47 @@
 -- `link_tops` walks along root's children.
-use mathlib.Core.Path.{refl, ◌∙◌}
+use mathlib.Core.Path.{refl, ap, ◌∙◌}
 use Prim.Native.Nat.{ℕ}
 use native.Mathlib.Omega.{arith}
-use borrow.Author.Rules.{rules}
-use Rattle.trie.proofs.Seeking.{least_falls}
+use Rattle.trie.specs.Children.{Begun}
 use Rattle.links.specs.Notes.{notes_of}
 use Rattle.links.proofs.Queue.{Linking}
-use Rattle.links.proofs.Walking.{opened, closed, in_trie, in_notes, room_left, more, top_link}
+use Rattle.links.proofs.Walking.{opened, closed, in_notes, room_left, more, top_link}
 use Rattle.links.proofs.link_tops.Goals as goal
-use Rattle.links.proofs.link_tops.Goals.{At-loop-t}
+use Rattle.links.proofs.link_tops.Goals.{At-loop-child, After-into_iter-child-iterator}
 
-pub first_child-t-requires : goal.first_child-t-requires
-first_child-t-requires c = let P = c.requires.poised.turn in omega (arith, P.ready.trie.two, P.ready.trie_room)
+-- the walk begins at root's first child
+from : (c : goal.After-into_iter-child-iterator) → Begun c.args.trie.now 0 c.into_iter-child-iterator.result
+from c = rw c.into_iter-child-iterator.ensures.into_iter_gives c.children-child-items.ensures
 
-pub loop-t-init : goal.loop-t-init
-loop-t-init c = (refl, λ kind es P e. (0, rw e (opened P)))
+pub loop-child-init : goal.loop-child-init
+loop-child-init c =
+    let b = from c in
+    (b.walks, tt, b.rows_are, refl, λ kind es P e. (0, rw e (opened P)))
 
 -- what the caller showed, and where the loop stands
-told : (c : goal.At-loop-t) → (lo : ℕ) × Linking c.requires.kind c.requires.es (notes_of c.loop-t.notes) 0 lo c.loop-t.t.0 c.loop-t.end
-told c = let p = c.requires in c.loop-t.invariant.1 p.kind p.es p.poised c.first_child-t.ensures
+told : (c : goal.At-loop-child) → (lo : ℕ) × Linking c.requires.kind c.requires.es (notes_of c.loop-child.notes) 0 lo c.loop-child.child-iterator.next.0 c.loop-child.end
+told c = let p = c.requires in c.loop-child.invariant.4 p.kind p.es p.poised (from (goal.at.At-loop-child c).After-into_iter-child-iterator).first
 
 pub note_child-requires : goal.note_child-requires
 note_child-requires c =
     let P = c.requires.poised in
-    (omega (arith, in_notes P (told (goal.at.note_child-requires c).At-loop-t).1 c.loop-t-test.true, c.loop-t.invariant.0), omega (arith, room_left P (told (goal.at.note_child-requires c).At-loop-t).1 c.loop-t-test.true, c.loop-t.invariant.0))
+    let A = told (goal.at.note_child-requires c).At-loop-child in
+    let s = c.in-Some.ensures.steps.1 in
+    (rw s.1 (omega (arith, in_notes P A.1 s.0, c.loop-child.invariant.3)), omega (arith, room_left P A.1 s.0, c.loop-child.invariant.3))
 
-pub overflow_add-end : goal.overflow_add-end
-overflow_add-end c =
-    let small = room_left c.requires.poised (told (goal.at.overflow_add-end c).At-loop-t).1 c.loop-t-test.true in
-    search rules
-
-pub next_sibling-t-requires : goal.next_sibling-t-requires
-next_sibling-t-requires c =
-    in_trie c.requires.poised (told (goal.at.next_sibling-t-requires c).At-loop-t).1 c.loop-t-test.true
-
-pub loop-t-smaller : goal.loop-t-smaller
-loop-t-smaller c =
-    rw c.next_sibling-t.ensures (least_falls c.requires.poised.turn.ready.trie (told (goal.at.loop-t-smaller c).At-loop-t).1.least c.loop-t-test.true)
-
-pub loop-t-preserved : goal.loop-t-preserved
-loop-t-preserved c = (
-  c.note_child.auto.notes ∙ c.loop-t.invariant.0,
-  λ kind es P e.
-      let A = c.loop-t.invariant.1 kind es P e in
-      let nz = c.loop-t-test.true in
-      rw c.next_sibling-t.ensures (_, more P A.1 nz _ 0 c.note_child.ensures (top_link P A.1 nz refl)),
-)
-
-pub shape_of-notes : goal.shape_of-notes
-shape_of-notes c = c.loop-t.invariant.0
+pub loop-child-preserved : goal.loop-child-preserved
+loop-child-preserved c =
+    let s = c.in-Some.ensures.steps in
+    let rows = ap (λ r. r.now) s.0 ∙ c.loop-child.invariant.2 in (
+      c.in-Some.ensures.goes.keeps,
+      tt,
+      rows,
+      c.note_child.auto.notes ∙ c.loop-child.invariant.3,
+      λ kind es P e.
+          let A = c.loop-child.invariant.4 kind es P e in
+          rw (s.1.2, c.loop-child.invariant.2) (_, more P A.1 s.1.0 _ 0 (rw s.1.1 at c.note_child.ensures) (top_link P A.1 s.1.0 refl)),
+    )
 
 pub returns : goal.returns
 returns c = λ kind es P.
-    closed P (c.loop-t.invariant.1 kind es P c.first_child-t.ensures).1 c.loop-t-test.false
+    closed P (c.loop-child.invariant.4 kind es P (from (goal.at.returns c).After-into_iter-child-iterator).first).1 c.in-None.ensures.steps.1.0

@@ -4,26 +4,17 @@ use native.Mathlib.Omega.{arith}
 use Rattle.list.proofs.Scans.{wrong_here, wrong_next, wrong_last}
 use Rattle.list.proofs.ends_wrong.Goals as goal
 
-pub loop-i-init : goal.loop-i-init
-loop-i-init c = (omega arith, refl)
-
 pub returns-then-end-previous : goal.returns-then-end-previous
 returns-then-end-previous c =
-    let turn = c.loop-i in
-    let end = c.pattern_end-end in
-    sym (wrong_here c.args.count turn.previous c.args.ends.now turn.i end.result (omega arith) end.ensures c.if-end-previous.true)
-    ∙ turn.invariant.1
+    let turn = c.loop-end in
+    sym (wrong_here c.args.count turn.previous c.args.ends.now turn.end-index _ (omega arith) refl c.if-end-previous.true) ∙ turn.invariant.1
 
-pub loop-i-preserved : goal.loop-i-preserved
-loop-i-preserved c =
-    let turn = c.loop-i in
-    let end = c.pattern_end-end in (
-      omega arith,
-      wrong_next c.args.count turn.previous c.args.ends.now turn.i end.result (omega arith) end.ensures c.if-end-previous.false
-          ∙ turn.invariant.1,
-    )
+pub loop-end-preserved : goal.loop-end-preserved
+loop-end-preserved c =
+    let turn = c.loop-end in
+    (omega arith, wrong_next c.args.count turn.previous c.args.ends.now turn.end-index _ (omega arith) refl c.if-end-previous.false ∙ turn.invariant.1)
 
 pub returns : goal.returns
 returns c =
-    let turn = c.loop-i in
-    sym (wrong_last c.args.count turn.previous c.args.ends.now turn.i (omega arith)) ∙ turn.invariant.1
+    let turn = c.loop-end in
+    sym (wrong_last c.args.count turn.previous c.args.ends.now turn.end-index (omega arith)) ∙ turn.invariant.1

@@ -2,7 +2,7 @@
 use mathlib.Core.Path.{◌≡◌, sym, ◌∙◌}
 use mathlib.Core.Bool.{Bool, true, false}
 use native.Mathlib.Omega.{arith}
-use borrow.Author.Count.{below_none, below_more}
+use borrow.Author.Count.{below_more}
 use Rattle.list.proofs.Patterns.{ordered_from}
 use Rattle.list.proofs.Scans.{fits, size_at, tested, sized_found, sized_missing}
 use Rattle.list.proofs.first_sized.Goals as goal
@@ -14,9 +14,6 @@ said : (c : goal.After-between) (b : Bool) → c.between.result ≡ b →
 said c b h =
     tested c.args.least c.args.most c.args.ends.now c.loop-i.i _ _ b c.pattern_end.ensures c.pattern_start.ensures
     (sym c.between.ensures ∙ h)
-
-pub loop-i-init : goal.loop-i-init
-loop-i-init c = (omega arith, below_none _)
 
 pub overflow_sub-size : goal.overflow_sub-size
 overflow_sub-size c =

@@ -5,68 +5,64 @@ use native.Mathlib.Omega.{arith}
 use lib.ListN.{length}
 use Rattle.list.specs.Limits.{smaller}
 use Rattle.list.specs.Kinds.{kind_of}
-use Rattle.list.specs.Claims.{Bytes}
-use Rattle.list.proofs.Slots.{smaller_left, smaller_right}
+use Rattle.list.proofs.Slots.{smaller_left, smaller_right, min_smaller}
 use Rattle.trie.specs.Trie.{slots_of}
 use Rattle.trie.specs.Owned.{owns_of}
-use Rattle.trie.specs.Made.{Made}
-use Rattle.trie.proofs.Accepting.{grew_on, grew_full}
+use Rattle.trie.specs.Made.{Made, drops_of}
+use Rattle.links.specs.Linked.{is_leftmost}
+use Rattle.links.specs.Queue.{Ready}
 use Rattle.nfa.specs.Grown.{accepted_of, counted}
-use Rattle.nfa.proofs.Accepted.{parted, made, made_room, full, ready, ready_room}
+use Rattle.nfa.proofs.Accepted.{made, made_room, full, grown_full, ready, ready_room}
 use Rattle.nfa.proofs.grow.Goals as goal
-use Rattle.nfa.proofs.grow.Goals.{After-count-slots, After-leftmost}
+use Rattle.nfa.proofs.grow.Goals.{After-count-slots, After-drops, After-leftmost}
+
+-- the slots are counted in the shorter of the two tables
+slots_are : (c : goal.After-count-slots) → c.count-slots.result ≡ counted (smaller (length c.args.trie.now) (length c.args.notes.now))
+slots_are c = c.count-slots.ensures ∙ ap counted (c.min.ensures ∙ min_smaller _ _)
 
 -- the slots that the trie may use are no more than both tables have
 slots_under : (c : goal.After-count-slots) → c.count-slots.result ≤ smaller (length c.args.trie.now) (length c.args.notes.now)
-slots_under c =
-    let n = smaller (length c.args.trie.now) (length c.args.notes.now) in
-    let e : c.count-slots.result ≡ counted n = c.count-slots.ensures ∙ ap counted c.least.ensures in
-    omega (arith, e, smaller_left n 4294967295)
+slots_under c = omega (arith, slots_are c, smaller_left (smaller (length c.args.trie.now) (length c.args.notes.now)) 4294967295)
 
--- they are rows of both
-slots_fit : (c : goal.After-count-slots) → (c.count-slots.result ≤ length c.args.trie.now) × (c.count-slots.result ≤ length c.args.notes.now)
-slots_fit c =
-    let a = length c.args.trie.now in
-    let d = length c.args.notes.now in
-    (omega (arith, slots_under c, smaller_left a d), omega (arith, slots_under c, smaller_right a d))
+-- what is asked of the kind is asked of the list's
+dropped : (c : goal.After-drops) → c.drops.result ≡ drops_of (kind_of c.args.list.kind)
+dropped c = c.drops.ensures ∙ ap drops_of c.requires.named
 
-pub add_all-requires : goal.add_all-requires
-add_all-requires c = (parted c.requires, (slots_fit (goal.at.add_all-requires c).After-count-slots).0)
+stopped : (c : goal.After-leftmost) → c.leftmost.result ≡ is_leftmost (kind_of c.args.list.kind)
+stopped c = c.leftmost.ensures ∙ ap is_leftmost c.requires.named
 
-pub returns-in_default : goal.returns-in_default
-returns-in_default c =
-    let a = c.args in
-    full c.requires (smaller (length a.trie.now) (length a.notes.now)) c.drops.ensures
-    (c.count-slots.ensures ∙ ap counted c.least.ensures) (grew_full _ _ _ _ _ _ c.add_all.ensures c.in_default.is)
+pub returns-in_err-grown-clause-grown : goal.returns-in_err-grown-clause-grown
+returns-in_err-grown-clause-grown c =
+    let at = goal.at.returns-in_err-grown-clause-grown c in
+    grown_full _ _ _ _ _ _ _ _ c.from_residual.ensures.0 (full c.requires.sound _ (dropped at.After-drops) (slots_are at.After-count-slots) c.in_err-grown.ensures.grown)
 
 -- the trie of the accepted patterns stands within the slots
-grown :
+stands :
     (c : goal.After-leftmost)
-    → Made (slots_of c.add_all.new.trie) (owns_of c.add_all.new.owns) c.in-On.states c.in-On.accepted (length c.args.owns.now) (accepted_of c.args.kind c.args.bytes.now c.args.ends.now)
-    × (c.in-On.states ≤ c.count-slots.result)
-grown c =
-    let r = grew_on _ _ _ _ _ _ _ _ c.add_all.ensures c.in-On.is in
-    (made c.requires c.drops.ensures r.0, r.1)
+    → Made (slots_of c.add_all.new.trie) (owns_of c.add_all.new.owns) c.in_ok-grown.grown.states c.in_ok-grown.grown.accepted (length c.args.owns.now) (accepted_of c.args.list.kind c.args.list.bytes.now c.args.list.ends.now)
+stands c = made c.requires.sound (dropped (goal.at.After-leftmost c).After-drops) c.in_ok-grown.ensures.grown.0
 
-all_bytes_lem : (c : goal.After-leftmost) → Bytes c.args.bytes.now
-all_bytes_lem c = λ k. (c.type_inv.bytes k).fits
+-- so the links can be made
+linkable : (c : goal.After-leftmost)
+    → Ready (kind_of c.args.list.kind) (accepted_of c.args.list.kind c.args.list.bytes.now c.args.list.ends.now) c.add_all.new.trie (length c.args.notes.now)
+linkable c =
+    let a = length c.args.trie.now in
+    let d = length c.args.notes.now in
+    let under = slots_under (goal.at.After-leftmost c).After-count-slots in
+    ready c.requires.sound c.add_all.ensures.letters (stands c)
+    (omega (arith, c.in_ok-grown.ensures.grown.1, under, smaller_left a d, c.add_all.auto.trie)) (omega (arith, c.in_ok-grown.ensures.grown.1, under, smaller_right a d))
 
 pub link_all-requires : goal.link_all-requires
 link_all-requires c =
-    let a = c.args in
-    record {
-      kind = kind_of a.kind;
-      es = accepted_of a.kind a.bytes.now a.ends.now;
-      ready = ready c.requires {trie = c.add_all.new.trie} {note_room = length c.args.notes.now} (all_bytes_lem c) (grown c).0 (omega (arith, (grown c).1, (slots_fit (goal.at.link_all-requires c).After-count-slots).0, c.add_all.auto.trie)) (omega (arith, (grown c).1, (slots_fit (goal.at.link_all-requires c).After-count-slots).1));
-      mode = c.leftmost.ensures;
-    }
+    let after = (goal.at.link_all-requires c).After-leftmost in
+    record { kind = kind_of c.args.list.kind; es = accepted_of c.args.list.kind c.args.list.bytes.now c.args.list.ends.now; ready = linkable after; mode = stopped after }
 
-pub returns : goal.returns
-returns c =
-    let R = ready c.requires {trie = c.add_all.new.trie} {note_room = length c.args.notes.now} (all_bytes_lem (goal.at.returns c).After-leftmost) (grown (goal.at.returns c).After-leftmost).0 (omega (arith, (grown (goal.at.returns c).After-leftmost).1, (slots_fit (goal.at.returns c).After-count-slots).0, c.add_all.auto.trie)) (omega (arith, (grown (goal.at.returns c).After-leftmost).1, (slots_fit (goal.at.returns c).After-count-slots).1)) in
+pub returns-clause-grown : goal.returns-clause-grown
+returns-clause-grown c =
+    let after = (goal.at.returns-clause-grown c).After-leftmost in
     record {
-      made = made_room (sym c.add_all.auto.owns) (grown (goal.at.returns c).After-leftmost).0;
-      ready = ready_room (sym c.link_all.auto.notes) R;
-      linked = c.link_all.ensures _ _ R c.leftmost.ensures;
-      fit = omega (arith, (grown (goal.at.returns c).After-leftmost).1, slots_under (goal.at.returns c).After-count-slots);
+      made = made_room (sym c.add_all.auto.owns) (stands after);
+      ready = ready_room (sym c.link_all.auto.notes) (linkable after);
+      linked = c.link_all.ensures _ _ (linkable after) (stopped after);
+      fit = omega (arith, c.in_ok-grown.ensures.grown.1, slots_under (goal.at.returns-clause-grown c).After-count-slots);
     }

@@ -13,14 +13,7 @@ use Rattle.outputs.proofs.Noting.{begun, begun_root, begun_dead, begun_placed, b
 use Rattle.outputs.proofs.Storing.{Storing, two_states, two_notes, states_count, storing, state_named, link_inside, stackable}
 use Rattle.outputs.proofs.Storing.{storing_more, storing_all}
 use Rattle.outputs.proofs.store_outputs.Goals as goal
-use Rattle.outputs.proofs.store_outputs.Goals.{At-loop-i}
-
-pub set_place-requires : goal.set_place-requires
-set_place-requires c = omega (arith, two_notes c.requires.tabled)
-
-pub set_place-requires-2 : goal.set_place-requires-2
-set_place-requires-2 c =
-    omega (arith, c.set_place.auto.notes, two_notes c.requires.tabled)
+use Rattle.outputs.proofs.store_outputs.Goals.{At-loop-i, In-loop-i}
 
 -- root and dead are noted when the loop begins
 entered : (rows first both : List (List ℕ)) → both ≡ with_place first 1 0 → first ≡ with_place rows 0 0 → both ≡ begun rows
@@ -57,26 +50,30 @@ loop-i-init c =
       λ kind es U. storing U _ (rw e (begun_root a.notes.now (two_notes T))) (rw e (begun_dead a.notes.now (two_notes T))),
     )
 
-pub state_at-s-requires : goal.state_at-s-requires
-state_at-s-requires c = omega (arith, room (goal.at.state_at-s-requires c).At-loop-i, c.loop-i-test.true)
+-- the place is one of the order
+in_order : (c : goal.In-loop-i) → c.loop-i.i < length (ordered c.requires.es)
+in_order c = omega (arith, states_count (known (goal.at.In-loop-i c).At-loop-i), c.loop-i-test.true)
 
-pub store_state-stored-requires : goal.store_state-stored-requires
-store_state-stored-requires c =
-    let T = known (goal.at.store_state-stored-requires c).At-loop-i in
-    let Q = so_far (goal.at.store_state-stored-requires c).At-loop-i in
-    let h : c.loop-i.i < length (ordered c.requires.es) = omega (arith, states_count T, c.loop-i-test.true) in
-    record {
-      stackable = rw (c.state_at-s.ensures, c.loop-i.invariant.1) (stackable T Q h);
-      s_in_bounds = rw c.state_at-s.ensures (
-        omega (arith, (state_named T Q h).inside, T.made.states_are, T.trie_room),
-        omega (arith, (state_named T Q h).inside, T.made.states_are, room (goal.at.store_state-stored-requires c).At-loop-i),
-        omega (arith, link_inside T Q h, T.made.states_are, room (goal.at.store_state-stored-requires c).At-loop-i),
-      );
-    }
+pub store_state-stored-requires-clause-stackable : goal.store_state-stored-requires-clause-stackable
+store_state-stored-requires-clause-stackable c =
+    let at = goal.at.store_state-stored-requires-clause-stackable c in
+    rw (c.state_at-s.ensures, c.loop-i.invariant.1) (stackable (known at.At-loop-i) (so_far at.At-loop-i) (in_order at.In-loop-i))
+
+pub store_state-stored-requires-clause-s_in_bounds : goal.store_state-stored-requires-clause-s_in_bounds
+store_state-stored-requires-clause-s_in_bounds c =
+    let at = goal.at.store_state-stored-requires-clause-s_in_bounds c in
+    let T = known at.At-loop-i in
+    let Q = so_far at.At-loop-i in
+    let h = in_order at.In-loop-i in
+    rw c.state_at-s.ensures (
+      omega (arith, (state_named T Q h).inside, T.made.states_are, T.trie_room),
+      omega (arith, (state_named T Q h).inside, T.made.states_are, room at.At-loop-i),
+      omega (arith, link_inside T Q h, T.made.states_are, room at.At-loop-i),
+    )
 
 pub loop-i-preserved : goal.loop-i-preserved
 loop-i-preserved c =
-    let more : c.loop-i.i + 1 < c.args.states = c.loop-i-test.true in
+    let more : c.loop-i.i + 1 < c.args.states = omega (arith, c.loop-i-test.true) in
     let said = c.store_state-stored in (
       said.auto.notes ∙ c.loop-i.invariant.0,
       said.auto.outs ∙ c.loop-i.invariant.1,

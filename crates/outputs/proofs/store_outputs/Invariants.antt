@@ -1,7 +1,7 @@
 -- `store_outputs` takes the states in their breadth-first order.
 use mathlib.Core.Path.{◌≡◌}
 use mathlib.Core.List.{List}
-use Prim.Native.Nat.{◌≤◌, ◌+◌, ◌-◌}
+use Prim.Native.Nat.{◌≤◌, ◌+◌}
 use lib.ListN.{length}
 use Rattle.paper.specs.Patterns.{Entry, Kind}
 use Rattle.outputs.specs.Placed.{Tabled}
@@ -13,6 +13,3 @@ invariant-loop-i l =
     (length l.notes ≡ length l.initial.notes) × (length l.outs ≡ length l.initial.outs) × (l.i + 1 ≤ l.states)
     × ((kind : Kind) (es : List Entry) → Tabled kind es l.trie l.owns l.initial.notes l.values (length l.initial.outs) l.states
     → Storing kind es l.values l.initial.notes l.initial.outs l.i l.notes l.outs l.stored)
-
-abbrev pub decreases-loop-i : goal.decreases-loop-i
-decreases-loop-i l = l.states - l.i

@@ -4,9 +4,6 @@ use Rattle.plan.specs.Placement.{grown}
 use Rattle.placement.proofs.Placing.{as_found, as_missed, turned_here, turned_full, turned_more, look_more, second_finds}
 use Rattle.placement.proofs.place_group.Goals as goal
 
-pub look-requires : goal.look-requires
-look-requires c = let p = c.requires in record { es = p.es; layout = p.layout; group = p.group; look = p.turn.looks; of = p.of }
-
 pub returns-then-look : goal.returns-then-look
 returns-then-look c = λ es l g T G.
     turned_here T g G (as_found es l g _ _ _ _ c.look.result (c.look.ensures es l g T.looks G) c.if-look.true)

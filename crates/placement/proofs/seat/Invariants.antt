@@ -8,16 +8,14 @@ use Rattle.list.specs.Limits.{alphabet}
 use Rattle.plan.specs.Names.{names}
 use Rattle.trie.specs.Trie.{slots_of}
 use Rattle.trie.specs.Stands.{Stands}
-use Rattle.trie.proofs.Seeking.{rank}
 use Rattle.placement.proofs.Seating.{Seating}
 use Rattle.placement.proofs.seat.Given as goal
 
-abbrev pub invariant-loop-t : goal.invariant-loop-t
-invariant-loop-t l =
-    (length l.notes ≡ length l.initial.notes)
+abbrev pub invariant-loop-child : goal.invariant-loop-child
+invariant-loop-child l =
+    (goal.iterator-loop-child).can_next l.child-iterator × (goal.iterator-loop-child).is_finite l.child-iterator
+    × (l.child-iterator.trie.now ≡ l.trie)
+    × (length l.notes ≡ length l.initial.notes)
     × (length l.spots ≡ length l.initial.spots)
-    × ((es : List Entry) (s : ℕ) → Stands es l.trie → s < length (names alphabet es) → l.initial.t.0 ≡ (slots_of l.trie).first s
-    → length (names alphabet es) ≤ length l.initial.notes → Seating es s l.base l.initial.notes l.notes l.initial.spots l.spots l.t.0)
-
-abbrev pub decreases-loop-t : goal.decreases-loop-t
-decreases-loop-t l = rank alphabet (slots_of l.trie) l.t.0
+    × ((es : List Entry) (s : ℕ) → Stands es l.trie → s < length (names alphabet es) → l.initial.child-iterator.next.0 ≡ (slots_of l.trie).first s
+    → length (names alphabet es) ≤ length l.initial.notes → Seating es s l.base l.initial.notes l.notes l.initial.spots l.spots l.child-iterator.next.0)

@@ -1,26 +1,14 @@
 -- `find_base` goes from one vacant index to the next, until one serves.
-use mathlib.Core.Path.{refl, sym, ◌∙◌}
+use mathlib.Core.Path.{sym, ◌∙◌}
 use mathlib.Core.List.{List}
 use native.Mathlib.Omega.{arith}
 use Rattle.paper.specs.Patterns.{Entry}
 use Rattle.plan.specs.Groups.{Group}
 use Rattle.plan.specs.Placement.{Layout}
 use Rattle.spots.specs.Charted.{Seek, GroupAt}
-use Rattle.spots.proofs.Hunting.{Hunt, seek_state, seek_child, seek_group, hunt_begin, hunt_none, hunt_try, hunt_stretch, hunt_found, hunt_more}
+use Rattle.spots.proofs.Hunting.{Hunt, seek_group, hunt_begin, hunt_none, hunt_try, hunt_stretch, hunt_found, hunt_more}
 use Rattle.spots.proofs.find_base.Goals as goal
 use Rattle.spots.proofs.find_base.Goals.{At-loop-i}
-
-pub first_child-requires : goal.first_child-requires
-first_child-requires c = seek_state c.requires.seek
-
-pub label-low-requires : goal.label-low-requires
-label-low-requires c = seek_child c.requires.seek c.first_child.ensures
-
-pub next_vacant-i-requires : goal.next_vacant-i-requires
-next_vacant-i-requires c = record { layout = c.requires.layout; stretch = c.requires.seek.stretch }
-
-pub loop-i-init : goal.loop-i-init
-loop-i-init c = (refl, λ es l g H. H)
 
 -- where the hunt stands, of whatever patterns, layout and group
 hunts : (c : goal.At-loop-i) (es : List Entry) (l : Layout) (g : Group)
@@ -45,10 +33,6 @@ pub fits-requires : goal.fits-requires
 fits-requires c =
     let p = c.requires in
     record { es = p.es; layout = p.layout; try = hunt_try (told (goal.at.fits-requires c).At-loop-i) c.loop-i-test.true }
-
-pub shape_of-spots-then-fits : goal.shape_of-spots-then-fits
-shape_of-spots-then-fits c =
-    c.loop-i.invariant.0 ∙ c.next_vacant-i.auto.spots
 
 pub returns-then-fits : goal.returns-then-fits
 returns-then-fits c =
@@ -75,10 +59,6 @@ loop-i-preserved c =
           hunt_more H h (sym c.if-fits.false ∙ c.fits.ensures es l g (hunt_try H h) H.group)
           (c.next_vacant-i-in-loop-i.ensures l (hunt_stretch H h)) same,
     )
-
-pub shape_of-spots : goal.shape_of-spots
-shape_of-spots c =
-    c.loop-i.invariant.0 ∙ c.next_vacant-i.auto.spots
 
 pub returns : goal.returns
 returns c =

@@ -1,22 +1,28 @@
 -- `fits` asks what a base must be, one thing after another.
-use mathlib.Core.Path.{sym, ◌∙◌}
-use Rattle.spots.proofs.Trying.{try_base, fits_not_zero, fits_not_used, fits_room}
+use mathlib.Core.Path.{sym, ap, ◌∙◌}
+use mathlib.Core.Bool.{not}
+use Rattle.std.proofs.lemmas.Bool.{eq-eqb, not-true, not-false}
+use Rattle.paper.proofs.Tests.{clash}
+use Rattle.spots.proofs.Trying.{fits_not_zero, fits_not_used, fits_room}
 use Rattle.spots.proofs.fits.Goals as goal
+use Rattle.spots.proofs.fits.Goals.{then-base-ne0, else-base-ne0}
 
-pub returns-then-base-eq0 : goal.returns-then-base-eq0
-returns-then-base-eq0 c = λ es l g R G. fits_not_zero R g c.if-base-eq0.true
-
-pub is_used-requires : goal.is_used-requires
-is_used-requires c = try_base c.requires.try
-
-pub returns-then-is_used : goal.returns-then-is_used
-returns-then-is_used c = λ es l g R G. fits_not_used R g c.if-base-eq0.false (sym c.is_used.ensures ∙ c.if-is_used.true)
-
-pub has_room-requires : goal.has_room-requires
-has_room-requires c = c.requires
-
-pub returns : goal.returns
-returns c =
+pub returns-then-not-is_used : goal.returns-then-not-is_used
+returns-then-not-is_used c =
     λ es l g R G.
-    c.has_room.ensures es l R
-    ∙ fits_room R g G c.if-base-eq0.false (sym c.is_used.ensures ∙ c.if-is_used.false)
+    elim c.if-base-ne0.branch [
+      | then-base-ne0 w ↦
+          c.has_room.ensures es l R
+          ∙ fits_room R g G w.if-base-ne0.true (sym w.is_used.ensures ∙ not-true _ (sym w.value-is ∙ c.if-not-is_used.true))
+      | else-base-ne0 w ↦ clash c.if-not-is_used.true (w.value-is ∙ ap not (eq-eqb _ 0 w.if-base-ne0.false))
+    ]
+
+pub returns-else-not-is_used : goal.returns-else-not-is_used
+returns-else-not-is_used c =
+    λ es l g R G.
+    elim c.if-base-ne0.branch [
+      | then-base-ne0 w ↦
+          c.if-not-is_used.false
+          ∙ fits_not_used R g w.if-base-ne0.true (sym w.is_used.ensures ∙ not-false _ (sym w.value-is ∙ c.if-not-is_used.false))
+      | else-base-ne0 w ↦ c.if-not-is_used.false ∙ fits_not_zero R g w.if-base-ne0.false
+    ]

@@ -1,45 +1,45 @@
 -- `has_room` walks along the children as long as their cells are vacant.
-use mathlib.Core.Path.{sym, ◌∙◌}
-use Rattle.spots.proofs.Trying.{Trying, try_state, trying, try_child, try_cell, try_falls, try_more, try_fails, try_ends}
+use mathlib.Core.Path.{sym, ap, ◌∙◌}
+use Rattle.trie.specs.Children.{Begun}
+use Rattle.spots.proofs.Trying.{trying, try_cell, try_more, try_fails, try_ends}
 use Rattle.spots.proofs.has_room.Goals as goal
-use Rattle.spots.proofs.has_room.Goals.{At-loop-t}
+use Rattle.spots.proofs.has_room.Goals.{After-into_iter-child-iterator}
 
-pub first_child-t-requires : goal.first_child-t-requires
-first_child-t-requires c = try_state c.requires.try
+-- the walk begins at the state's first child
+from : (c : goal.After-into_iter-child-iterator) → Begun c.args.trie.now c.args.s.0 c.into_iter-child-iterator.result
+from c = rw c.into_iter-child-iterator.ensures.into_iter_gives c.children-child-items.ensures
 
-pub loop-t-init : goal.loop-t-init
-loop-t-init c = λ es l s R e. rw e (trying R)
-
--- where the loop stands, for the patterns and the layout that the caller showed
-told : (c : goal.At-loop-t) → Trying c.requires.es c.requires.layout c.args.s.0 c.args.base c.loop-t.t.0
-told c = let p = c.requires in c.loop-t.invariant p.es p.layout c.args.s.0 p.try c.first_child-t.ensures
-
-pub label-requires : goal.label-requires
-label-requires c = try_child c.requires.try (told (goal.at.label-requires c).At-loop-t) c.loop-t-test.true
+pub loop-child-init : goal.loop-child-init
+loop-child-init c =
+    let b = from c in
+    (b.walks, tt, b.rows_are, λ es l s R e. rw e (trying R))
 
 pub is_vacant-requires : goal.is_vacant-requires
 is_vacant-requires c =
-    rw c.label.ensures (try_cell c.requires.try (told (goal.at.is_vacant-requires c).At-loop-t) c.loop-t-test.true)
+    let p = c.requires in
+    let s = c.in-Some.ensures.steps.1 in
+    let A = c.loop-child.invariant.3 p.es p.layout c.args.s.0 p.try (from (goal.at.is_vacant-requires c).After-into_iter-child-iterator).first in
+    rw (c.label.ensures, s.1) (try_cell p.try A s.0)
 
-pub next_sibling-t-requires : goal.next_sibling-t-requires
-next_sibling-t-requires c =
-    try_child c.requires.try (told (goal.at.next_sibling-t-requires c).At-loop-t) c.loop-t-test.true
+pub loop-child-preserved : goal.loop-child-preserved
+loop-child-preserved c =
+    let s = c.in-Some.ensures.steps in
+    let rows = ap (λ r. r.now) s.0 ∙ c.loop-child.invariant.2 in (
+      c.in-Some.ensures.goes.keeps,
+      tt,
+      rows,
+      λ es l u R e.
+          rw (s.1.2, c.loop-child.invariant.2)
+          (try_more R (c.loop-child.invariant.3 es l u R e) s.1.0 (rw s.1.1 at c.label.ensures) (sym c.is_vacant.ensures ∙ c.if-not-is_vacant.false)),
+    )
 
-pub loop-t-smaller : goal.loop-t-smaller
-loop-t-smaller c =
-    rw c.next_sibling-t.ensures (try_falls c.requires.try (told (goal.at.loop-t-smaller c).At-loop-t) c.loop-t-test.true)
-
-pub loop-t-preserved : goal.loop-t-preserved
-loop-t-preserved c =
-    λ es l s R e. rw c.next_sibling-t.ensures
-    (try_more R (c.loop-t.invariant es l s R e) c.loop-t-test.true
-    c.label.ensures (sym c.is_vacant.ensures ∙ c.if-is_vacant.true))
-
-pub returns-else-is_vacant : goal.returns-else-is_vacant
-returns-else-is_vacant c =
-    λ es l R. try_fails R (c.loop-t.invariant es l _ R c.first_child-t.ensures) c.loop-t-test.true
-    c.label.ensures (sym c.is_vacant.ensures ∙ c.if-is_vacant.false)
+pub returns-then-not-is_vacant : goal.returns-then-not-is_vacant
+returns-then-not-is_vacant c =
+    let first = (from (goal.at.returns-then-not-is_vacant c).After-into_iter-child-iterator).first in
+    let s = c.in-Some.ensures.steps.1 in
+    λ es l R. try_fails R (c.loop-child.invariant.3 es l _ R first) s.0 (rw s.1 at c.label.ensures) (sym c.is_vacant.ensures ∙ c.if-not-is_vacant.true)
 
 pub returns : goal.returns
 returns c =
-    λ es l R. try_ends R (c.loop-t.invariant es l _ R c.first_child-t.ensures) c.loop-t-test.false
+    let first = (from (goal.at.returns c).After-into_iter-child-iterator).first in
+    λ es l R. try_ends R (c.loop-child.invariant.3 es l _ R first) c.in-None.ensures.steps.1.0

@@ -1,7 +1,7 @@
 -- `add` walks down the trie by the bytes of one pattern and makes the states that are missing.
 use mathlib.Core.Path.{◌≡◌}
 use mathlib.Core.List.{List}
-use Prim.Native.Nat.{ℕ, ◌≤◌, ◌-◌}
+use Prim.Native.Nat.{ℕ, ◌≤◌}
 use lib.ListN.{length}
 use Rattle.list.specs.Limits.{alphabet}
 use Rattle.trie.specs.Trie.{slots_of, Trie}
@@ -13,6 +13,3 @@ invariant-loop-i l =
     (l.i ≤ length l.part) × (length l.trie ≡ length l.initial.trie) × (l.n ≤ l.slots)
     × ((names : List (List ℕ)) → Trie alphabet (slots_of l.initial.trie) names → l.states ≡ length names
     → Adding alphabet (slots_of l.initial.trie) (slots_of l.trie) names l.part l.n l.s.0 l.i)
-
-abbrev pub decreases-loop-i : goal.decreases-loop-i
-decreases-loop-i l = length l.part - l.i

@@ -3,9 +3,6 @@ use Rattle.whole.specs.Whole.{layout_of}
 use Rattle.build.proofs.Phasing.{writable, filled}
 use Rattle.build.proofs.phases.fill.Goals as goal
 
-pub store_outputs-stored-requires : goal.store_outputs-stored-requires
-store_outputs-stored-requires c = let p = c.requires in record { kind = p.kind; es = p.es; tabled = p.fillable.tabled }
-
 pub write_cells-requires : goal.write_cells-requires
 write_cells-requires c =
     let p = c.requires in

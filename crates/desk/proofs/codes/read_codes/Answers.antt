@@ -1,47 +1,60 @@
--- `desk::codes::read_codes` says what `codes` says. The invariant: the rows so far, which the tables hold, and what the lines that are left say.
-use mathlib.Core.Path.{refl, ◌∙◌}
-use Prim.Native.Nat.{◌<◌}
-use lib.ListN.{length, length-set}
-use Rattle.desk.proofs.Rowing.{part_length}
-use Rattle.desk.proofs.Listing.{begun, all_read, full, bad_line, one_more, inside_code}
+-- `desk::codes::read_codes` says what `codes` says.
+use mathlib.Core.Path.{◌≡◌, refl, sym, ap, ◌∙◌}
+use mathlib.Core.List.{List, ◌++◌}
+use Prim.Native.Nat.{ℕ, ◌≤◌, ◌+◌, ◌-◌}
 use native.Mathlib.Omega.{arith}
+use lib.ListN.{length, take, length-set}
+use lib.Seq.{length-take-le}
+use Rattle.std.proofs.Common.{rules}
+use Rattle.std.proofs.lemmas.Slice.{take-put_mid}
+use Rattle.desk.specs.Rows.{row_of}
+use Rattle.desk.specs.declared.stretches.Lines.{Lines}
+use Rattle.desk.proofs.Listing.{bare_most, begun, full, bad_line, line_fits, one_more, all_read}
 use Rattle.desk.proofs.codes.read_codes.Goals as goal
 
-pub loop-at-init : goal.loop-at-init
-loop-at-init c =
-    (begun (length c.args.ends.now) c.args.file.now c.args.bytes.now c.args.ends.now c.args.values.now c.args.marks.now, refl, refl, refl, refl)
+pub loop-line-init : goal.loop-line-init
+loop-line-init c =
+    let e : c.into_iter-line-iterator.result.rest.now ≡ c.args.file.now =
+    ap (λ (x : Lines). x.rest.now) c.into_iter-line-iterator.ensures.into_iter_gives ∙ c.of-line-items.ensures in
+    rw e (tt, tt, begun (length c.args.ends.now) c.args.file.now c.args.bytes.now c.args.ends.now c.args.values.now c.args.marks.now, omega arith, refl, refl, refl, refl)
 
 pub returns-then-ends-rows : goal.returns-then-ends-rows
 returns-then-ends-rows c =
-    let turn = c.loop-at in
-    full _ _ _ _ _ _ _ _ _ turn.invariant.0 (omega arith) _ refl (omega (arith, turn.invariant.2, c.if-ends-rows.true))
+    let turn = c.loop-line in
+    full _ _ _ _ _ _ _ _ _ turn.invariant.2 _ _ c.in-Some.ensures.steps (omega (arith, turn.invariant.5))
 
 pub returns-in_default : goal.returns-in_default
 returns-in_default c =
-    let turn = c.loop-at in
-    let stop = c.line_end-stop in
-    let row = c.read_line in
-    bad_line _ _ _ _ _ _ _ _ _ turn.invariant.0 (omega arith) stop.result stop.ensures.value (omega (arith, turn.invariant.2))
-    row.result row.ensures.result_value c.in_default.is
+    let turn = c.loop-line in
+    bad_line _ _ _ _ _ _ _ _ _ turn.invariant.2 _ _ c.in-Some.ensures.steps (omega (arith, turn.invariant.5)) c.row_of.result
+    (c.row_of.ensures.result_value ∙ ap (row_of turn.rows) c.bare.ensures) c.in_default.is
 
-pub loop-at-preserved : goal.loop-at-preserved
-loop-at-preserved c =
-    let turn = c.loop-at in
-    let mark = c.in-Code in
-    let stop = c.line_end-stop in
-    let row = c.read_line in
-    let put = c.append-end in
-    let room : turn.rows < length turn.ends = omega arith in
-    let i = inside_code _ _ _ _ _ _ _ row.ensures.inside mark.is in
-    let size = part_length c.args.file.now mark.from mark.to i.1 (omega (arith, stop.ensures)) in (
-      one_more _ _ _ _ _ turn.bytes turn.ends turn.values turn.marks turn.invariant.0 c.loop-at-test.true stop.result stop.ensures.value stop.ensures.lower_bound.1 (omega (arith, turn.invariant.2))
-          row.result _ _ _ _ row.ensures.result_value mark.is (omega arith) put.result put.new.bytes put.ensures.value put.ensures.bytes_after room
-          (omega (arith, turn.invariant.2, turn.invariant.3, c.requires.ends_in_bounds)) (omega (arith, turn.invariant.2, turn.invariant.4, c.requires.ends_in_bounds_2)),
-      put.auto.bytes ∙ turn.invariant.1,
-      length-set turn.ends _ _ ∙ turn.invariant.2,
-      length-set turn.values _ _ ∙ turn.invariant.3,
-      length-set turn.marks _ _ ∙ turn.invariant.4,
+pub loop-line-preserved : goal.loop-line-preserved
+loop-line-preserved c =
+    let turn = c.loop-line in
+    let row = c.in-Some-row_of.row in
+    let short : length row.code.now ≤ length c.in-Some.line.now =
+    omega (arith, c.in-Some-row_of.ensures.within, ap length c.bare.ensures, bare_most c.in-Some.line.now) in
+    let fits : turn.end + length row.code.now ≤ length turn.bytes =
+    omega (arith, short, line_fits _ _ _ _ _ _ _ _ _ turn.invariant.2 _ _ c.in-Some.ensures.steps, turn.invariant.4, c.requires.file_fits_bytes) in
+    let after = c.copy_from_slice.ensures.after in
+    let put = take-put_mid turn.end (turn.end + length row.code.now - turn.end) turn.bytes c.copy_from_slice.new.self (turn.end + length row.code.now)
+    (omega (arith, ap length after)) (omega (arith, fits)) ∙ ap (λ (ys : List ℕ). take turn.end turn.bytes ++ ys) after in (
+      tt,
+      tt,
+      rw c.from.ensures
+          (one_more _ _ _ _ _ _ _ _ _ turn.invariant.2 _ _ c.in-Some.ensures.steps (omega (arith, turn.invariant.5)) c.row_of.result row
+          (c.row_of.ensures.result_value ∙ ap (row_of turn.rows) c.bare.ensures) c.in-Some-row_of.is short _ _ refl put
+          (omega arith) (omega (arith, turn.invariant.6, turn.invariant.5, c.requires.ends_fit_values)) (omega (arith, turn.invariant.7, turn.invariant.5, c.requires.ends_fit_marks))),
+      omega (arith, length-set turn.ends turn.rows (turn.end + length row.code.now)),
+      search rules,
+      length-set turn.ends _ _ ∙ turn.invariant.5,
+      length-set turn.values _ _ ∙ turn.invariant.6,
+      length-set turn.marks _ _ ∙ turn.invariant.7,
     )
 
+pub slice_bounds-result-end-2 : goal.slice_bounds-result-end-2
+slice_bounds-result-end-2 c = sym (length-take-le _ _ c.loop-line.invariant.3)
+
 pub returns : goal.returns
-returns c = all_read _ _ _ _ _ _ _ _ _ c.loop-at.invariant.0 (omega arith)
+returns c = all_read _ _ _ _ _ _ _ _ _ c.loop-line.invariant.2 c.in-None.ensures.steps.0

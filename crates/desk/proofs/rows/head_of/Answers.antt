@@ -1,23 +1,28 @@
 -- `desk::rows::head_of` is `head_of`: each way out cites its law.
-use mathlib.Core.Path.{ap, ◌∙◌}
-use Rattle.desk.specs.Rows.{marked}
-use Rattle.desk.proofs.Rowing.{head_none, head_plain, head_mark, head_valued}
+use mathlib.Core.Path.{sym, ap, ◌∙◌}
+use Rattle.desk.specs.Rows.{marked, head_told}
+use Rattle.desk.proofs.Rowing.{head_plain, head_mark, head_valued}
 use Rattle.desk.proofs.rows.head_of.Goals as goal
 
-pub returns-then-head-eq0 : goal.returns-then-head-eq0
-returns-then-head-eq0 c = head_none c.args.number c.args.head.now c.if-head-eq0.true
+pub returns-in_err-number_of : goal.returns-in_err-number_of
+returns-in_err-number_of c =
+    ap head_told c.from_residual.ensures ∙ ap (marked 0) (sym c.in_err-number_of.was ∙ c.number_of.ensures)
+    ∙ head_plain c.args.number c.args.head.now c.in_default.ensures.cases
 
-pub returns-then-head-ne-HAZARD_MARK : goal.returns-then-head-ne-HAZARD_MARK
-returns-then-head-ne-HAZARD_MARK c =
-    c.with_mark.ensures ∙ ap (marked 0) c.number_of.ensures
-    ∙ head_plain c.args.number c.args.head.now c.if-head-eq0.false c.if-head-ne-HAZARD_MARK.true
+pub returns-in_default : goal.returns-in_default
+returns-in_default c =
+    ap (marked 0) (sym c.in_ok-number_of.was ∙ c.number_of.ensures) ∙ head_plain c.args.number c.args.head.now c.in_default.ensures.cases
 
-pub returns-then-head-eq1 : goal.returns-then-head-eq1
-returns-then-head-eq1 c =
-    head_mark c.args.number c.args.head.now c.if-head-ne-HAZARD_MARK.false c.if-head-eq1.true
+pub returns-then-is_empty : goal.returns-then-is_empty
+returns-then-is_empty c =
+    head_mark c.args.number c.args.head.now c.in-Some.digits.now c.in-Some.ensures.cases.0 c.in-Some.ensures.cases.1 (sym c.if-is_empty.ensures)
+
+pub returns-in_err-number_of-2 : goal.returns-in_err-number_of-2
+returns-in_err-number_of-2 c =
+    ap head_told c.from_residual-in_err-number_of-2.ensures ∙ ap (marked 1) (sym c.in_err-number_of-2.was ∙ c.number_of-2.ensures)
+    ∙ head_valued c.args.number c.args.head.now c.in-Some.digits.now c.in-Some.ensures.cases.0 c.in-Some.ensures.cases.1 (sym c.if-is_empty.ensures)
 
 pub returns : goal.returns
 returns c =
-    c.with_mark-2.ensures ∙ ap (marked 1) c.number_of-2.ensures
-    ∙ head_valued c.args.number c.args.head.now c.if-head-eq0.false c.if-head-ne-HAZARD_MARK.false
-    c.if-head-eq1.false
+    ap (marked 1) (sym c.in_ok-number_of-2.was ∙ c.number_of-2.ensures)
+    ∙ head_valued c.args.number c.args.head.now c.in-Some.digits.now c.in-Some.ensures.cases.0 c.in-Some.ensures.cases.1 (sym c.if-is_empty.ensures)

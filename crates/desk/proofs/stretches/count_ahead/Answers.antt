@@ -1,19 +1,11 @@
--- `desk::stretches::count_ahead` is `ahead`. The invariant: the bytes passed and those ahead from here are those ahead.
-use Rattle.desk.proofs.Scanning.{ahead_here, ahead_next, ahead_none}
-use native.Mathlib.Omega.{arith}
+-- `desk::stretches::count_ahead` is `ahead`.
+use mathlib.Core.Path.{ap, ◌∙◌}
+use Rattle.std.proofs.Common.{length, ℕ}
+use Rattle.std.specs.Prelude.{Option, unwrap_or}
+use Rattle.desk.proofs.Scanning.{ahead_position}
 use Rattle.desk.proofs.stretches.count_ahead.Goals as goal
-
-pub returns-then-bytes-i-clause-value : goal.returns-then-bytes-i-clause-value
-returns-then-bytes-i-clause-value c =
-    let turn = c.loop-i in
-    omega (arith, ahead_here c.args.byte c.args.bytes.now turn.i (omega arith) c.if-bytes-i.true)
-
-pub loop-i-preserved : goal.loop-i-preserved
-loop-i-preserved c =
-    let turn = c.loop-i in
-    (omega arith, omega (arith, ahead_next c.args.byte c.args.bytes.now turn.i (omega arith) c.if-bytes-i.false))
 
 pub returns-clause-value : goal.returns-clause-value
 returns-clause-value c =
-    let turn = c.loop-i in
-    omega (arith, ahead_none c.args.byte c.args.bytes.now turn.i (omega arith))
+    c.unwrap_or.ensures ∙ ap (λ (o : Option ℕ). unwrap_or o (length c.args.bytes.now)) c.position_of.ensures
+    ∙ ahead_position c.args.byte c.args.bytes.now

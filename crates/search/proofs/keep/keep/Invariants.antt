@@ -6,7 +6,7 @@ use Prim.Native.Nat.{◌-◌}
 use Rattle.search.proofs.keep.keep.Given as goal
 
 abbrev pub invariant-loop-at : goal.invariant-loop-at
-invariant-loop-at l = Keeping (lent l.base l.link l.output l.check l.depth l.outs l.counts) l.text l.initial.kept l.initial.at l.kept l.at
+invariant-loop-at l = Keeping (lent l.tables) l.text l.initial.kept l.initial.at l.kept l.at
 
 abbrev pub decreases-loop-at : goal.decreases-loop-at
 decreases-loop-at l = length l.text - l.at.place

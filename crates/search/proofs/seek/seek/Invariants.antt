@@ -6,7 +6,7 @@ use Prim.Native.Nat.{◌-◌}
 use Rattle.search.proofs.seek.seek.Given as goal
 
 abbrev pub invariant-loop-row : goal.invariant-loop-row
-invariant-loop-row l = Seeking l.leftmost (lent l.base l.link l.output l.check l.depth l.outs l.counts) l.text l.initial.at l.at
+invariant-loop-row l = Seeking l.leftmost (lent l.tables) l.text l.initial.at l.at
 
 abbrev pub decreases-loop-row : goal.decreases-loop-row
 decreases-loop-row l = length l.text - l.at.place

@@ -1,5 +1,0 @@
--- `main` ends: it counts its turns down.
-use Rattle.replay.proofs.main.Given as goal
-
-abbrev pub decreases-loop-turns : goal.decreases-loop-turns
-decreases-loop-turns l = l.turns

@@ -1,0 +1,6 @@
+-- `zeros::zero_all` leaves nothing but zeros: the law of a fill from the front.
+use Rattle.zeros.proofs.Fill.{Filled}
+use Rattle.zeros.proofs.zero_all.Given as goal
+
+abbrev pub invariant-loop-slot : goal.invariant-loop-slot
+invariant-loop-slot g l = Filled g.T.Zero.zero l.initial.slots l.slot-index l.slots
