@@ -12,7 +12,7 @@ use search::{Search, Searching};
 use sheet::{Stop, fill};
 use table::{CellId, Counts, Tables};
 
-// The number of a build's answer: 0 for a good one, else the refusal's. C wants numbers, and they stand here alone.
+// The number of a build's answer: 0 for a good one, else the refusal's. C wants numbers, and nothing else crosses to it.
 pub fn number_of(built: Result<Counts, build::Refusal>) -> u32
     ensures { result ≡ number_of (answer built) }
 {
@@ -35,13 +35,12 @@ pub fn beside_of(built: Result<Counts, build::Refusal>) -> [u32; 4]
 {
     match built {
         Ok(made) => [made.kind, made.accepted, made.states, made.cells],
-        Err(build::Refusal::Empty(row)) => [row, 0, 0, 0],
-        Err(build::Refusal::TooLong(row)) => [row, 0, 0, 0],
+        Err(build::Refusal::Empty(row) | build::Refusal::TooLong(row)) => [row, 0, 0, 0],
         Err(_) => [0; 4],
     }
 }
 
-// The number of a search's refusal, and of a stop.
+// The number of a search's refusal.
 fn refusal_number(why: search::Refusal) -> u32
     ensures { result ≡ number why }
 {
@@ -52,6 +51,7 @@ fn refusal_number(why: search::Refusal) -> u32
     }
 }
 
+// The number of a stop: 0 at the end, 1 for a full sheet, or the refusal's.
 fn stop_number(stop: Stop) -> u32
     ensures { result ≡ stop_number (stop_of stop) }
 {
@@ -62,7 +62,8 @@ fn stop_number(stop: Stop) -> u32
     }
 }
 
-// What a search is told of the tables. It asks for no number of states.
+// What a search is told of the tables. It asks for no number of states. Of three numbers of one type a name says more than a `From` of a tuple
+// would. The kind is a number as C gives it: one above 2 is lent too, and a search answers it with refusal 11.
 pub fn counts_of(kind: u32, accepted: u32, cells: u32) -> Counts
     ensures { result ≡ counts_of kind accepted cells }
 {

@@ -25,6 +25,7 @@ use Rattle.build.specs.Phases.{Filled, AllDone, Caused, PhasesOk}
 use Rattle.build.specs.Promise.{Promise}
 use Rattle.list.specs.Answers.{told}
 use Rattle.list.specs.declared.Refusal.{Refusal as Unsound}
+use Rattle.list.specs.declared.SoundList.{SoundList}
 use Rattle.list.specs.declared.Refusal.TheVariants as list
 use Rattle.table.specs.declared.Counts.{Counts}
 use Rattle.build.specs.declared.Refusal.{Refusal}
@@ -177,7 +178,7 @@ module _ {kind : ℕ} {bytes ends values : List ℕ} where
         outs_left = kept_left t.number h lot.outs _;
       }
 
-  pub promise_unsound : {lot : Lot} (why : Unsound) → told (Err why) ≡ lowest (refusals kind bytes ends values)
+  pub promise_unsound : {lot : Lot} (why : Unsound) → told {A = SoundList} (Err why) ≡ lowest (refusals kind bytes ends values)
       → Promise kind bytes ends values lot lot (Err (of_list why))
   promise_unsound list.BadKind e = promise_listed _ (omega arith) (sym e) _ refl
   promise_unsound list.BadEnds e = promise_listed _ (omega arith) (sym e) _ refl

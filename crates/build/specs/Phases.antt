@@ -5,7 +5,6 @@ use Rattle.paper.specs.Lists.{pick}
 use Rattle.paper.specs.Patterns.{Entry, Kind}
 use Rattle.list.specs.Limits.{block, most_cells}
 use Rattle.list.specs.Kinds.{kind_of}
-use Rattle.list.specs.Claims.{Sound}
 use Rattle.groups.specs.Ordered.{Groupable}
 use Rattle.outputs.specs.Placed.{Tabled}
 use Rattle.placement.specs.Laid.{Laid}
@@ -77,9 +76,8 @@ pub record Filled (kind : Kind) (es : List Entry) (values : List ℕ) (before af
 
 -- ---- the whole
 
--- the list is sound; the chart and the result tables are blank
-pub record Prepared (kind : ℕ) (bytes ends values : List ℕ) (lot : Lot) : Type 0 where
-  pub sound : Sound kind bytes ends values
+-- the chart and the result tables are blank
+pub record Prepared (lot : Lot) : Type 0 where
   pub spots_blank : lot.spots ≡ blank_rows 2 lot.spots
   pub base_blank : lot.base ≡ blank lot.base
   pub link_blank : lot.link ≡ blank lot.link

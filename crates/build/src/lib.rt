@@ -1,16 +1,14 @@
 // The tables of a pattern list: `build`, with refusals 1 to 8. All tables are lent and may hold anything. Working tables are zero again
 // after a good build; nothing is changed by 1 to 5, and all is zero after 6 to 8. The ten tables come one by one, from C and from Rattle:
-// in a struct of `&mut`s each of them would need a clause more in every contract, that its reference is still the one lent.
+// in a struct of `&mut`s each of them would need a clause more in every contract, that its reference is still the one lent. For `trie` it would
+// be `ensures same_trie { w.new.trie.ghost_name ≡ w.old.trie.ghost_name }`, and nine like it.
 #![tactic(auto)]
 
 ghost use Rattle.std.specs.Prelude.{◌≡◌};
-ghost use Rattle.list.specs.Answers.{kind_named};
-ghost use Rattle.list.specs.Claims.{Sound};
-ghost use Rattle.list.specs.Kinds.{kind_of};
 ghost use Rattle.build.specs.Lot.{lot_of};
 ghost use Rattle.build.specs.Promise.{Promise};
 
-use list::{Kind, List};
+use list::{List, SoundList};
 use table::{Counts, Depth};
 use wipe::{wipe_results, wipe_working};
 
@@ -79,8 +77,7 @@ impl From<placement::FewCells> for Refusal {
 
 // The tables of a sound list.
 fn make(
-    kind: Kind,
-    list: List<'_>,
+    sound: SoundList<'_>,
     trie: &mut [[u32; 5]],
     owns: &mut [[u32; 2]],
     notes: &mut [[u32; 6]],
@@ -92,9 +89,7 @@ fn make(
     depth: &mut [Depth],
     outs: &mut [[u32; 3]],
 ) -> Result<Counts, Refusal>
-    requires sound { Sound list.kind list.bytes.now list.ends.now list.values.now }
-    requires named { kind_named kind ≡ kind_of list.kind }
-    ensures { Promise list.entry.kind list.entry.bytes.now list.entry.ends.now list.entry.values.now
+    ensures { Promise sound.entry.list.kind sound.entry.list.bytes.now sound.entry.list.ends.now sound.entry.list.values.now
         (lot_of trie.old owns.old notes.old spots.old
         base.old link.old output.old check.old depth.old outs.old)
         (lot_of trie.new owns.new notes.new spots.new
@@ -103,7 +98,7 @@ fn make(
     zeros::zero_all(spots);
     wipe_results(base, link, output, check, depth, outs);
     let made = phases(
-        kind, list, trie, owns, notes, spots, base, link, output, check, depth, outs,
+        sound, trie, owns, notes, spots, base, link, output, check, depth, outs,
     );
     wipe_working(trie, owns, notes, spots);
     if made.is_err() {
@@ -132,8 +127,8 @@ pub fn build(
         (lot_of trie.new owns.new notes.new spots.new
         base.new link.new output.new check.new depth.new outs.new) result }
 {
-    let kind = list.check()?;
+    let sound = list.check()?;
     make(
-        kind, list, trie, owns, notes, spots, base, link, output, check, depth, outs,
+        sound, trie, owns, notes, spots, base, link, output, check, depth, outs,
     )
 }

@@ -1,15 +1,14 @@
-// The phases of a build on blank tables, in the order of their refusals: 6, 7, 8.
-ghost use Rattle.std.specs.Prelude.{◌≡◌, List as Numbers, ℕ, length};
+// The phases of a build on blank tables, in the order of their refusals: 6, 7, 8. The tables come one by one, as in
+// `build`: in a struct of `&mut`s each that is written would need a clause more in every contract.
+ghost use Rattle.std.specs.Prelude.{List as Numbers, ℕ, length};
 ghost use Rattle.paper.specs.Patterns.{Entry, Kind as Search};
-ghost use Rattle.list.specs.Answers.{kind_named};
-ghost use Rattle.list.specs.Kinds.{kind_of};
 ghost use Rattle.build.specs.Lot.{lot_of};
 ghost use Rattle.build.specs.Phases.{LayableSome, Layable, LaidBy, Fillable, FillableSome, Filled, Prepared, PhasesOk};
 
 use crate::Refusal;
 use crate::slots::{cell_slots, most_blocks};
+use list::SoundList;
 use list::limits::BLOCK;
-use list::{Kind, List};
 use placement::FewCells;
 use table::{Counts, Depth};
 
@@ -64,8 +63,7 @@ fn fill(
 
 // The tables of a sound list: its trie and links, the layout of its groups, then outputs and cells.
 pub(crate) fn phases(
-    kind: Kind,
-    list: List<'_>,
+    sound: SoundList<'_>,
     trie: &mut [[u32; 5]],
     owns: &mut [[u32; 2]],
     notes: &mut [[u32; 6]],
@@ -77,17 +75,15 @@ pub(crate) fn phases(
     depth: &mut [Depth],
     outs: &mut [[u32; 3]],
 ) -> Result<Counts, Refusal>
-    requires prepared { Prepared list.kind list.bytes.now list.ends.now list.values.now
-        (lot_of trie.old owns.old notes.old spots.old
+    requires { Prepared (lot_of trie.old owns.old notes.old spots.old
         base.old link.old output.old check.old depth.old outs.old) }
-    requires named { kind_named kind ≡ kind_of list.kind }
-    ensures { PhasesOk list.entry.kind list.entry.bytes.now list.entry.ends.now list.entry.values.now
+    ensures { PhasesOk sound.entry.list.kind sound.entry.list.bytes.now sound.entry.list.ends.now sound.entry.list.values.now
         (lot_of trie.old owns.old notes.old spots.old
         base.old link.old output.old check.old depth.old outs.old)
         (lot_of trie.new owns.new notes.new spots.new
         base.new link.new output.new check.new depth.new outs.new) result }
 {
-    let grown = nfa::grow(kind, list, trie, owns, notes)?;
+    let grown = nfa::grow(sound, trie, owns, notes)?;
     let most = most_blocks(cell_slots(spots, base, link, output, check, depth));
     let blocks = lay_out(trie, notes, spots, most)?;
     if owns.len().min(outs.len()) < grown.accepted as usize {
@@ -98,7 +94,7 @@ pub(crate) fn phases(
         owns,
         notes,
         spots,
-        list.values,
+        sound.list.values,
         base,
         link,
         output,
@@ -109,7 +105,7 @@ pub(crate) fn phases(
         blocks,
     );
     Ok(Counts {
-        kind: list.kind,
+        kind: sound.list.kind,
         accepted,
         states: grown.states - 1,
         cells: blocks * BLOCK,

@@ -1,4 +1,5 @@
-// The slots that are lent: where they lie in several slices, the shortest counts.
+// The slots that are lent: where they lie in several slices, the shortest counts. The columns come one by one, since a build is lent them
+// to write.
 ghost use Rattle.std.specs.Prelude.{◌≡◌, length};
 ghost use Rattle.build.specs.Lot.{cell_slots};
 ghost use Rattle.build.specs.Phases.{blocks_in};

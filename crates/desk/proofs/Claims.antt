@@ -59,7 +59,7 @@ warns_of (r ∷ rs) code = ap (λ (b : Bool). (eqb r.mark 1 && same r.code code)
 pub claims : DeskClaims
 claims =
     record {
-      held = λ rs bytes ends values marks h.
+      held = λ rs count end bytes ends values marks h.
           record {
             cut = rw (h.bytes_are, h.ends_are) (cut_out rs);
             patterns = rw (h.bytes_are, h.ends_are) (codes_behind [] rs);

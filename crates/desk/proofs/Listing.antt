@@ -81,31 +81,21 @@ marks_one : (rs : List Listed) (r : Listed) → marks_of (rs ++ (r ∷ [])) ≡ 
 marks_one [] r = refl
 marks_one (q ∷ rs) r = ap (λ (more : List ℕ). q.mark ∷ more) (marks_one rs r)
 
--- the first slots of the tables hold these rows: count of them, their codes up to end
-pub record Filled (rs : List Listed) (count end : ℕ) (bytes ends values marks : List ℕ) : Type 0 where
-  pub counted : length rs ≡ count
-  pub sized : length (joined rs) ≡ end
-  pub held : Held rs (take end bytes) (take count ends) (take count values) (take count marks)
-
-module _ (rs : List Listed) (r : Listed) (count end : ℕ) (bytes more ends values marks : List ℕ) (h : Filled rs count end bytes ends values marks) where
+module _ (rs : List Listed) (r : Listed) (count end : ℕ) (bytes more ends values marks : List ℕ) (h : Held rs count end bytes ends values marks) where
   filled_one : (end' : ℕ) → end' ≡ end + length r.code → take end' more ≡ take end bytes ++ r.code
       → count < length ends → count < length values → count < length marks
-      → Filled (rs ++ (r ∷ [])) (count + 1) end' more (set ends count end') (set values count r.value) (set marks count r.mark)
+      → Held (rs ++ (r ∷ [])) (count + 1) end' more (set ends count end') (set values count r.value) (set marks count r.mark)
   unfolding joined
   filled_one end' e b m n o =
       record {
         counted = length-append rs (r ∷ []) ∙ ap (λ (k : ℕ). k + 1) h.counted;
         sized = ap length (joined_one rs r) ∙ length-append (joined rs) r.code ∙ ap (λ (k : ℕ). k + length r.code) h.sized ∙ sym e;
-        held =
-            record {
-              bytes_are = b ∙ ap (λ (s : List ℕ). s ++ r.code) h.held.bytes_are ∙ sym (joined_one rs r);
-              ends_are =
-                  let t : 0 + length (joined rs) + length r.code ≡ end' = omega (arith, h.sized) in
-                  rw (add-one count, take-suc-set ends count end' m, ends_one 0 rs r, t) (ap (λ (s : List ℕ). s ++ (end' ∷ [])) h.held.ends_are);
-              values_are =
-                  rw (add-one count, take-suc-set values count r.value n, values_one rs r) (ap (λ (s : List ℕ). s ++ (r.value ∷ [])) h.held.values_are);
-              marks_are = rw (add-one count, take-suc-set marks count r.mark o, marks_one rs r) (ap (λ (s : List ℕ). s ++ (r.mark ∷ [])) h.held.marks_are);
-            };
+        bytes_are = b ∙ ap (λ (s : List ℕ). s ++ r.code) h.bytes_are ∙ sym (joined_one rs r);
+        ends_are =
+            let t : 0 + length (joined rs) + length r.code ≡ end' = omega (arith, h.sized) in
+            rw (add-one count, take-suc-set ends count end' m, ends_one 0 rs r, t) (ap (λ (s : List ℕ). s ++ (end' ∷ [])) h.ends_are);
+        values_are = rw (add-one count, take-suc-set values count r.value n, values_one rs r) (ap (λ (s : List ℕ). s ++ (r.value ∷ [])) h.values_are);
+        marks_are = rw (add-one count, take-suc-set marks count r.mark o, marks_one rs r) (ap (λ (s : List ℕ). s ++ (r.mark ∷ [])) h.marks_are);
       }
 
 -- ---- the loop
@@ -114,7 +104,7 @@ module _ (rs : List Listed) (r : Listed) (count end : ℕ) (bytes more ends valu
 pub record Reading (room : ℕ) (file : List ℕ) (left : List (List ℕ)) (count end : ℕ) (bytes ends values marks : List ℕ) : Type 0 where
   pub done : List Listed
   pub says : after done (listing room count left) ≡ codes room file
-  pub filled : Filled done count end bytes ends values marks
+  pub filled : Held done count end bytes ends values marks
   pub fewer : count + length left ≤ length file
   pub shorter : end + bytes_in left ≤ length file
 
@@ -124,15 +114,15 @@ begun room file bytes ends values marks =
     record {
       done = [];
       says = after_nothing (codes room file);
-      filled = record { counted = refl; sized = refl; held = record { bytes_are = refl; ends_are = refl; values_are = refl; marks_are = refl } };
+      filled = record { counted = refl; sized = refl; bytes_are = refl; ends_are = refl; values_are = refl; marks_are = refl };
       fewer = omega (arith, count_most file);
       shorter = omega (arith, bytes_most file);
     }
 
 module _ (room : ℕ) (file : List ℕ) (left : List (List ℕ)) (count end : ℕ) (bytes ends values marks : List ℕ) (r : Reading room file left count end bytes ends values marks) where
-  pub all_read : left ≡ [] → Taken (codes room file) (take end bytes) (take count ends) (take count values) (take count marks)
+  pub all_read : left ≡ [] → Taken (codes room file) count end bytes ends values marks
   unfolding listing
-  all_read e = record { taken = r.done; says = sym (rw (e, append-nil r.done) at r.says); held = r.filled.held }
+  all_read e = record { taken = r.done; says = sym (rw (e, append-nil r.done) at r.says); held = r.filled }
 
   module _ (line : List ℕ) (rest : List (List ℕ)) (l : left ≡ line ∷ rest) where
     pub full : room ≤ count → codes room file ≡ too_many

@@ -1,5 +1,5 @@
 -- What is proved of the rows of a list and of the tables that hold them: each claim with its English above it. The proofs stand in ../proofs.
-use Rattle.std.specs.Prelude.{◌≡◌, true, List, map, ℕ}
+use Rattle.std.specs.Prelude.{◌≡◌, true, List, map, ℕ, take}
 use Rattle.paper.specs.Lists.{same}
 use Rattle.list.specs.Listed.{patterns_of}
 use Rattle.list.specs.Claims.{SoundEnds}
@@ -17,7 +17,8 @@ pub record HeldClaims (rs : List Listed) (bytes ends marks : List ℕ) : Type 0 
   pub warns : (code : List ℕ) → hazard (patterns_of bytes ends) marks code ≡ warned rs code
 
 pub record DeskClaims : Type 0 where
-  pub held : (rs : List Listed) (bytes ends values marks : List ℕ) → Held rs bytes ends values marks → HeldClaims rs bytes ends marks
+  pub held : (rs : List Listed) (count end : ℕ) (bytes ends values marks : List ℕ) → Held rs count end bytes ends values marks
+      → HeldClaims rs (take end bytes) (take count ends) (take count marks)
   -- stretches that are told the same are equal
   pub same_only : (xs ys : List ℕ) → same xs ys ≡ true → xs ≡ ys
   -- and equal ones are told the same

@@ -1,9 +1,9 @@
 -- The whole list: the rows of its lines, or the first line that is bad with its reason; and how the tables hold the rows.
-use Rattle.std.specs.Prelude.{◌≡◌, List, [], ◌∷◌, ◌++◌, map, ℕ, suc, ◌+◌, leb, length, Option, Some, None, Result, Ok, Err}
+use Rattle.std.specs.Prelude.{◌≡◌, List, [], ◌∷◌, ◌++◌, map, ℕ, suc, ◌+◌, leb, length, take, Option, Some, None, Result, Ok, Err}
 use Rattle.paper.specs.Lists.{pick}
 use Rattle.desk.specs.Stretches.{lines_of, bare}
 use Rattle.desk.specs.Rows.{Listed, row_of}
-use Rattle.desk.specs.declared.codes.Codes.{Codes}
+use Rattle.desk.specs.declared.codes.Read.{Read}
 use Rattle.desk.specs.declared.codes.Fault.{Fault}
 use Rattle.desk.specs.declared.codes.Fault.TheVariants.{BadValue, TooMany}
 
@@ -51,21 +51,23 @@ values_of rs = map (λ (r : Listed). r.value) rs
 abbrev pub marks_of : List Listed → List ℕ
 marks_of rs = map (λ (r : Listed). r.mark) rs
 
--- the tables hold these rows
-pub record Held (rs : List Listed) (bytes ends values marks : List ℕ) : Type 0 where
-  pub bytes_are : bytes ≡ joined rs
-  pub ends_are : ends ≡ ends_from 0 rs
-  pub values_are : values ≡ values_of rs
-  pub marks_are : marks ≡ marks_of rs
+-- the first slots of the tables hold these rows: count of them, their codes up to end
+pub record Held (rs : List Listed) (count end : ℕ) (bytes ends values marks : List ℕ) : Type 0 where
+  pub counted : length rs ≡ count
+  pub sized : length (joined rs) ≡ end
+  pub bytes_are : take end bytes ≡ joined rs
+  pub ends_are : take count ends ≡ ends_from 0 rs
+  pub values_are : take count values ≡ values_of rs
+  pub marks_are : take count marks ≡ marks_of rs
 
 -- the list says rows, and the tables hold them
-pub record Taken (said : Listing) (bytes ends values marks : List ℕ) : Type 0 where
+pub record Taken (said : Listing) (count end : ℕ) (bytes ends values marks : List ℕ) : Type 0 where
   pub taken : List Listed
   pub says : said ≡ rows taken
-  pub held : Held taken bytes ends values marks
+  pub held : Held taken count end bytes ends values marks
 
--- the answer of the code is what the list says
-abbrev pub Says : Listing → Result Codes Fault → Type 0
-Says said (Ok c) = Taken said c.bytes.now c.ends.now c.values.now c.marks.now
-Says said (Err (BadValue k)) = said ≡ bad_value k
-Says said (Err TooMany) = said ≡ too_many
+-- the answer of the code, with the tables as it left them, is what the list says
+abbrev pub Says : Listing → List ℕ → List ℕ → List ℕ → List ℕ → Result Read Fault → Type 0
+Says said bytes ends values marks (Ok r) = Taken said r.rows r.end bytes ends values marks
+Says said bytes ends values marks (Err (BadValue k)) = said ≡ bad_value k
+Says said bytes ends values marks (Err TooMany) = said ≡ too_many

@@ -1,11 +1,18 @@
 // The whole list of codes, read into tables: the bytes of all codes in a row, and for each row the end of its code, its value and its mark.
-ghost use Rattle.std.specs.Prelude.{◌≡◌, ◌≤◌, ◌<◌, length};
+ghost use Rattle.std.specs.Prelude.{◌≡◌, ◌≤◌, ◌<◌, length, IfOk};
 ghost use Rattle.desk.specs.Codes.{codes, Says};
 
 use crate::rows::row_of;
 use crate::stretches::{Lines, bare};
 
-// The rows of a list, in the tables that they were read into.
+// How many rows were read, and where the bytes of their codes end: they are the first of the tables.
+#[derive(Clone, Copy, Debug, PartialEq, Eq)]
+pub struct Read {
+    pub rows: usize,
+    pub end: usize,
+}
+
+// The rows of a list, in tables that hold just them: one for each field, since a build takes ends and values as slices.
 #[derive(Clone, Copy)]
 pub struct Codes<'a> {
     pub bytes: &'a [u8],
@@ -24,20 +31,22 @@ pub enum Fault {
 }
 
 // Reads a list. Up to the first bad line the tables are written.
-pub fn read_codes<'a>(
+pub fn read_codes(
     file: &[u8],
-    bytes: &'a mut [u8],
-    ends: &'a mut [u32],
-    values: &'a mut [u32],
-    marks: &'a mut [u8],
-) -> Result<Codes<'a>, Fault>
+    bytes: &mut [u8],
+    ends: &mut [u32],
+    values: &mut [u32],
+    marks: &mut [u8],
+) -> Result<Read, Fault>
     requires file_fits_numbers { length file.now < 4294967296 }
     requires file_fits_bytes { length file.now ≤ length bytes.old }
     requires ends_fit_values { length ends.old ≤ length values.old }
     requires ends_fit_marks { length ends.old ≤ length marks.old }
-    ensures { Says (codes (length ends.old) file.now) result }
+    ensures says { Says (codes (length ends.old) file.now) bytes.new ends.new values.new marks.new result }
+    ensures inside { IfOk result (λ r. (r.end ≤ length bytes.new) × (r.rows ≤ length ends.new)) }
 {
     let mut end = 0;
+    // Counted by hand: it is the answer too, how many rows there are, and `enumerate` would drop it at the end.
     let mut rows = 0;
     for line in Lines::of(file) {
         if ends.len() <= rows {
@@ -54,10 +63,5 @@ pub fn read_codes<'a>(
         end = next;
         rows += 1;
     }
-    Ok(Codes {
-        bytes: &bytes[..end],
-        ends: &ends[..rows],
-        values: &values[..rows],
-        marks: &marks[..rows],
-    })
+    Ok(Read { rows, end })
 }

@@ -29,7 +29,7 @@ fn head_of(head: &[u8], number: u32) -> Option<(bool, u32)>
 
 // The row of a line with this number, or none where its value is bad. The line has no return at its end.
 pub fn row_of(line: &[u8], number: u32) -> Option<Row<'_>>
-    ensures result_value { row_told result ≡ row_of number line.now }
+    ensures row { row_told result ≡ row_of number line.now }
     ensures within { Within (length line.now) result }
 {
     let tab = count_ahead(line, TABULATOR);

@@ -14,8 +14,8 @@ fn position_of(bytes: &[u8], byte: u8) -> Option<usize>
 
 // How many bytes stand before the first such byte; all of them where there is none.
 pub fn count_ahead(bytes: &[u8], byte: u8) -> usize
-    ensures value { result ≡ ahead byte bytes.now }
-    ensures upper_bound { result ≤ length bytes.now }
+    ensures ahead { result ≡ ahead byte bytes.now }
+    ensures within { result ≤ length bytes.now }
 {
     position_of(bytes, byte).unwrap_or(bytes.len())
 }

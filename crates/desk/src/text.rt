@@ -1,5 +1,5 @@
 // Bytes put together in a room of their own, as a line that is written at once, or a name. What does not fit is left out.
-ghost use Rattle.std.specs.Prelude.{◌≡◌, false, [], List, ℕ, take, length, ◌≤◌};
+ghost use Rattle.std.specs.Prelude.{◌≡◌, false, [], List, ◌++◌, ℕ, take, length, ◌≤◌};
 ghost use Rattle.desk.specs.Shown.{is_control, Clean};
 
 use std::io;
@@ -8,6 +8,7 @@ use std::marker::Model;
 
 const BACKSLASH: u8 = b'\\';
 
+// A name may be any bytes, where std's `InlineText` holds text alone, and a `Vec` would take memory.
 #[derive(Drop)]
 pub struct Room<const N: usize> {
     bytes: [u8; N],
@@ -72,10 +73,15 @@ impl<const N: usize> Room<N> {
         }
     }
 
-    pub fn put(&mut self, part: &[u8]) {
-        for byte in part {
-            self.push(*byte);
-        }
+    // As much of the part as fits.
+    pub fn put(&mut self, part: &[u8])
+        ensures { self.new ≡ take N (self.old ++ part.now) }
+    {
+        let size = part.len().min(self.bytes.len() - self.size);
+        let next = self.size + size;
+        let room = &mut self.bytes[..];
+        room[self.size..next].copy_from_slice(&part[..size]);
+        self.size = next;
     }
 
     // A code or a file's name: control bytes as \xHH, so that nothing can disturb a terminal.

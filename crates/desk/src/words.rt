@@ -1,6 +1,6 @@
 // The words of the command, taken one after the other.
-ghost use Rattle.std.specs.Prelude.{◌≡◌, ◌≢◌, ◌+◌, ◌↔◌, false, IfOk, IsOk};
-ghost use Rattle.desk.specs.Words.{names_in};
+ghost use Rattle.std.specs.Prelude.{◌≡◌, ◌≢◌, ◌↔◌, false, IsOk};
+ghost use Rattle.desk.specs.Words.{NamesCounted};
 ghost use Rattle.desk.specs.declared.words.Way.TheVariants as way;
 
 // Which search is run.
@@ -39,7 +39,8 @@ pub enum Fault {
 // What a word was.
 #[derive(Clone, Copy, Debug, PartialEq, Eq)]
 pub enum Word {
-    Option,
+    // An option, or the search that one asks for.
+    Setting,
     // The name of the list.
     List,
     // The name of the sheet.
@@ -76,12 +77,12 @@ impl Wish {
     }
 
     pub fn take(&mut self, word: &[u8]) -> Result<Word, Fault>
-        ensures { IfOk result (λ taken. self.new.names ≡ self.old.names + names_in taken) }
+        ensures { NamesCounted self.old.names self.new.names result }
     {
         if self.choosing {
             self.way = Way::named(word).ok_or(Fault::UnknownSearch)?;
             self.choosing = false;
-            return Ok(Word::Option);
+            return Ok(Word::Setting);
         }
         if self.over || !word.starts_with(b"-") {
             return self.take_name();
@@ -90,7 +91,7 @@ impl Wish {
     }
 
     fn take_option(&mut self, word: &[u8]) -> Result<Word, Fault>
-        ensures { IfOk result (λ taken. self.new.names ≡ self.old.names + names_in taken) }
+        ensures { NamesCounted self.old.names self.new.names result }
     {
         match word {
             b"--" => self.over = true,
@@ -99,11 +100,11 @@ impl Wish {
             b"--help" | b"-h" => return Ok(Word::Help),
             _ => return Err(Fault::UnknownOption),
         }
-        Ok(Word::Option)
+        Ok(Word::Setting)
     }
 
     fn take_name(&mut self) -> Result<Word, Fault>
-        ensures { IfOk result (λ taken. self.new.names ≡ self.old.names + names_in taken) }
+        ensures { NamesCounted self.old.names self.new.names result }
     {
         let word = match self.names {
             0 => Word::List,

@@ -1,4 +1,6 @@
-// Inner: the order of the sibling groups (the crate's `sibling_groups` without weights) as a table, depth first from a stack.
+// Inner: the order of the sibling groups (the crate's `sibling_groups` without weights) as a table, depth first from a stack. The notes
+// are written, so they come beside the trie and not in a struct with it: of a `&mut` in a struct every contract would need a clause more,
+// that it is still the reference that was lent.
 #![tactic(auto)]
 
 ghost use Rattle.std.specs.Prelude.{◌≡◌, List, ℕ, ◌<◌, length};
@@ -44,7 +46,8 @@ fn set_stacked(notes: &mut [[u32; 6]], i: usize, s: TrieId)
     notes[i][STACK] = s.0;
 }
 
-// The children of a state on the stack, by rising byte, so that the highest byte's is on top. Answers the height.
+// The children of a state on the stack, by rising byte, so that the highest byte's is on top. Answers the height: the count
+// is the answer too, so no `enumerate` serves.
 fn push_children(trie: &[[u32; 5]], notes: &mut [[u32; 6]], s: TrieId, height: usize) -> usize
     requires { PushableSome trie.now notes.old s.0 height }
     ensures { (es : List Entry) (u : List ℕ) (stack : List (List ℕ)) → Pushable es trie.now notes.old s.0 height u stack

@@ -9,9 +9,11 @@ use lib.Seq.{get_or-set_same, get_or-set_other}
 use Rattle.list.specs.Limits.{alphabet}
 use Rattle.zeros.specs.Rows.{zeros}
 use Rattle.zeros.proofs.Rows.{get_or_zeros}
+use Rattle.std.specs.Prelude.{Option, None, Some}
+use Rattle.trie.specs.declared.TrieId.{TrieId}
 use Rattle.trie.specs.Trie.{Slots, Kid, Least, Trie, Gap}
 use Rattle.trie.proofs.Seeking.{least_label, least_kid, least_next}
-use Rattle.links.specs.Linked.{Step}
+use Rattle.links.specs.Linked.{Step, Stepped}
 use Rattle.links.specs.Queue.{Tops}
 
 -- the bytes below lo are noted, from lo on nothing is
@@ -65,6 +67,16 @@ module _ {K : Slots} {ns : List (List ℕ)} (I : Trie alphabet K ns) {tops : Lis
 -- a state's child as `locate` tells it
 pub step_at : {ns : List (List ℕ)} {u : List ℕ} {c t : ℕ} → Kid alphabet ns u c t → Step alphabet ns u c t
 step_at k = record { none = λ z. absurd (omega (arith, k.above)); some = λ _. k }
+
+-- and as `child` answers it
+pub answer_some : {ns : List (List ℕ)} {u : List ℕ} {c : ℕ} {r : Option TrieId} {t : TrieId} → r ≡ Some t → Stepped alphabet ns u c r → Step alphabet ns u c t.0
+answer_some {ns} {u} {c} e q = step_at (rw e at q)
+
+pub some_is_child : (ns : List (List ℕ)) (u : List ℕ) (c : ℕ) {r : Option TrieId} {t : TrieId} → r ≡ Some t → Stepped alphabet ns u c r → t.0 ≡ 0 → ⊥
+some_is_child ns u c {r} {t} e q z = let k : Kid alphabet ns u c t.0 = rw e at q in omega (arith, k.above, z)
+
+pub answer_none : {ns : List (List ℕ)} {u : List ℕ} {c : ℕ} {r : Option TrieId} → r ≡ None → Stepped alphabet ns u c r → Step alphabet ns u c 0
+answer_none {ns} {u} {c} e q = record { none = λ _. rw e at q; some = λ nz. absurd (nz refl) }
 
 pub step_none : {ns : List (List ℕ)} {u : List ℕ} {c prev next : ℕ} → Gap alphabet ns u c prev next → Step alphabet ns u c 0
 step_none g = record { none = λ _. g.absent; some = λ nz. absurd (nz refl) }

@@ -1,5 +1,5 @@
 -- The breadth-first order and the links, in the names of the states.
-use Rattle.std.specs.Prelude.{◌≡◌, Bool, true, false, List, [], ℕ, ◌<◌, length, get_or}
+use Rattle.std.specs.Prelude.{◌≡◌, Bool, true, false, List, [], ℕ, ◌<◌, length, get_or, Option, None, Some}
 use Rattle.paper.specs.Lists.{snoc}
 use Rattle.paper.specs.Patterns.{Entry, Kind, standard, leftmost}
 use Rattle.paper.specs.Automaton.{machine, is_state, Link, dead, to, link}
@@ -7,6 +7,7 @@ use Rattle.list.specs.Limits.{alphabet, most_bytes}
 use Rattle.plan.specs.Names.{has, names}
 use Rattle.plan.specs.Breadth.{breadth}
 use Rattle.trie.specs.Trie.{Kid}
+use Rattle.trie.specs.declared.TrieId.{TrieId}
 use Rattle.links.specs.Notes.{Notes}
 
 -- t is the number of the state s; dead is no state
@@ -24,6 +25,11 @@ Leads ns (to s) t = Named ns t s
 pub record Step (a : ℕ) (ns : List (List ℕ)) (u : List ℕ) (c t : ℕ) : Type 0 where
   pub none : t ≡ 0 → has ns (snoc u c) ≡ false
   pub some : (t ≡ 0 → ⊥) → Kid a ns u c t
+
+-- the child of u on the byte c, or that there is none
+abbrev pub Stepped : ℕ → List (List ℕ) → List ℕ → ℕ → Option TrieId → Type 0
+Stepped a ns u c None = has ns (snoc u c) ≡ false
+Stepped a ns u c (Some t) = Kid a ns u c t.0
 
 -- the states of the accepted patterns, breadth first
 abbrev pub ordered : List Entry → List (List ℕ)

@@ -1,4 +1,6 @@
-// Inner: the failure links of the trie's states (the crate's `build_fails` and `build_fails_leftmost`), breadth first.
+// Inner: the failure links of the trie's states (the crate's `build_fails` and `build_fails_leftmost`), breadth first. The
+// notes are written, so they come beside the trie and not in a struct with it: of a `&mut` in a struct every contract would need a clause
+// more, that it is still the reference that was lent.
 #![tactic(auto)]
 
 ghost use Rattle.std.specs.Prelude.{◌≡◌, List, [], ℕ, suc, ◌+◌, ◌≤◌, ◌<◌, length, get_or, take};
@@ -9,7 +11,7 @@ ghost use Rattle.plan.specs.Names.{names};
 ghost use Rattle.trie.specs.Trie.{slots_of, Trie};
 ghost use Rattle.trie.specs.Answers.{Known};
 ghost use Rattle.links.specs.Notes.{notes_of, with_order, with_link};
-ghost use Rattle.links.specs.Linked.{Step, Linked, is_leftmost, ordered};
+ghost use Rattle.links.specs.Linked.{Stepped, Linked, is_leftmost, ordered};
 ghost use Rattle.links.specs.Queue.{Tops, Queued, Final, Noted, Ready, Turn, Poised, TurnSome, RootSome, PoisedSome, ReadySome};
 
 use list::limits::ALPHABET;
@@ -50,17 +52,20 @@ fn set_link(notes: &mut [[u32; 6]], s: TrieId, t: TrieId)
     notes[s.0 as usize][LINK] = t.0;
 }
 
-// The child of a state on a byte; root, which is no child, where there is none. Root has up to 256 children, and nearly every hunt asks it,
-// so its children stand in a table of their own.
-fn child(trie: &[[u32; 5]], tops: &[u32; ALPHABET], s: TrieId, byte: u32) -> TrieId
+// The child of a state on a byte. Root has up to 256 children, and nearly every hunt asks it, so its children stand in a table of their own,
+// with 0 where there is none.
+fn child(trie: &[[u32; 5]], tops: &[u32; ALPHABET], s: TrieId, byte: u32) -> Option<TrieId>
     requires { Known trie.now s.0 × (byte < alphabet) }
     ensures { (ns : List (List ℕ)) → Trie alphabet (slots_of trie.now) ns → Tops ns tops.now → s.0 < length ns
-        → Step alphabet ns (get_or ns s.0 []) byte result.0 }
+        → Stepped alphabet ns (get_or ns s.0 []) byte result }
 {
     if s.0 == 0 {
-        return TrieId(tops[byte as usize]);
+        return match tops[byte as usize] {
+            0 => None,
+            t => Some(TrieId(t)),
+        };
     }
-    trie::locate(trie, s, byte).unwrap_or(TrieId(0))
+    trie::locate(trie, s, byte).ok()
 }
 
 // Root's children by byte.
@@ -84,7 +89,8 @@ fn note_child(notes: &mut [[u32; 6]], t: TrieId, link: TrieId, end: usize)
     set_order(notes, end, t);
 }
 
-// Under a leftmost kind a state with an own output gets link dead, before its children are handled.
+// Under a leftmost kind a state with an own output gets link dead, before its children are handled. `leftmost`, here and in `link_all`,
+// is what the kind means to this step, not which step to run.
 fn stop(trie: &[[u32; 5]], notes: &mut [[u32; 6]], leftmost: bool, s: TrieId, tail: usize)
     requires { TurnSome trie.now notes.old leftmost s.0 tail }
     ensures { (kind : Kind) (es : List Entry) (h : ℕ) → Turn kind es trie.now notes.old s.0 h tail → leftmost ≡ is_leftmost kind
@@ -95,7 +101,8 @@ fn stop(trie: &[[u32; 5]], notes: &mut [[u32; 6]], leftmost: bool, s: TrieId, ta
     }
 }
 
-// Root's children link to root.
+// Root's children link to root. Answers how long the queue is: the count is the answer too, here and in `link_children`, so no `enumerate`
+// serves.
 fn link_tops(trie: &[[u32; 5]], notes: &mut [[u32; 6]]) -> usize
     requires { RootSome trie.now notes.old }
     ensures { (kind : Kind) (es : List Entry) → Poised kind es trie.now notes.old 0 0 1
@@ -127,12 +134,12 @@ fn link_children(
     for t in trie::children(trie, s) {
         let byte = trie::label(trie, t);
         let mut f = above;
+        // A chain: each turn's state says which is next. Document 01 names this form, a loop that yields by `break`.
         let link = loop {
             if f.0 == 1 {
                 break TrieId(1);
             }
-            let g = child(trie, tops, f, byte);
-            if g.0 != 0 {
+            if let Some(g) = child(trie, tops, f, byte) {
                 break g;
             }
             if f.0 == 0 {

@@ -3,7 +3,9 @@ use mathlib.Core.Path.{◌≡◌, refl, sym, ap, ◌∙◌}
 use mathlib.Core.Bool.{Bool, true, false, not}
 use mathlib.Core.List.{List, []}
 use mathlib.Core.Option.{Option, none, some}
-use Prim.Native.Nat.{ℕ, ◌<◌}
+use mathlib.Core.HLevel.{is_prop→PathP}
+use Prim.Native.Nat.{ℕ, ◌<◌, ◌≤◌}
+use Rattle.std.proofs.Props.{props}
 use native.Mathlib.Omega.{arith}
 use lib.Dec.{eqb}
 use lib.ListN.{length, get_or}
@@ -13,11 +15,14 @@ use Rattle.std.proofs.lemmas.Bool.{eqb-true, eqb-false, ne_eqb, ltb-false, le-lt
 use Rattle.paper.proofs.Tests.{clash}
 use Rattle.list.specs.Limits.{last_kind, most_listed, most_bytes}
 use Rattle.list.specs.Refusals.{Told, is_found, lowest, entry, without, distinct, Exactly}
-use Rattle.list.specs.Listed.{patterns_of, ends_wrong, is_empty, exceeds, first_where, refusals}
+use Rattle.list.specs.Listed.{patterns_of, falls, ends_wrong, is_empty, exceeds, first_where, refusals}
 use Rattle.std.specs.Prelude.{Result, Ok, Err, IfOk, IsOk, IsErrAnd}
 use Rattle.paper.specs.Patterns.{Kind as Search, standard, leftmost, longest, first}
+use Rattle.list.specs.Kinds.{kind_of}
 use Rattle.list.specs.Answers.{refused, told, kind_named}
 use Rattle.list.specs.Claims.{Sound, GivenExactly}
+use Rattle.list.specs.declared.List.{List as Lent}
+use Rattle.list.specs.declared.SoundList.{SoundList}
 use Rattle.list.specs.declared.Kind.{Kind}
 use Rattle.list.specs.declared.Kind.TheVariants.{Standard, LeftmostLongest, LeftmostFirst}
 use Rattle.list.specs.declared.Refusal.{Refusal}
@@ -45,45 +50,77 @@ by_name Standard = refl
 by_name LeftmostLongest = refl
 by_name LeftmostFirst = refl
 
--- the answer to a list of a kind that tells a number and an index
-abbrev answer : Search → Option Told → Result Kind Refusal
-answer search none = Ok (kind_by search)
-answer search (some t) =
-    Err (pick (eqb t.number 1) BadKind
-    (pick (eqb t.number 2) BadEnds
-    (pick (eqb t.number 3) TooMany
-    (pick (eqb t.number 4) (Empty t.index) (TooLong t.index)))))
+-- a list that is not refused is so in one way
+sound_prop : (kind : ℕ) (bytes ends values : List ℕ) → IsProp (Sound kind bytes ends values)
+sound_prop kind bytes ends values x y =
+    let within : (a b : ℕ) → IsProp (a ≤ b) = λ a b. hlevel props in
+    let rising : IsProp (falls 0 ends ≡ false) = hlevel props in
+    let same : (a b : ℕ) → IsProp (a ≡ b) = λ a b. hlevel props in
+    let filled : IsProp ((i : ℕ) → i < length ends → 0 < length (get_or (patterns_of bytes ends) i [])) = hlevel props in
+    let short : IsProp ((i : ℕ) → i < length ends → length (get_or (patterns_of bytes ends) i []) ≤ most_bytes) = hlevel props in
+    λ i. record {
+      known = within _ _ x.known y.known i;
+      paired = same _ _ x.paired y.paired i;
+      cut = record { rising = rising x.cut.rising y.cut.rising i; whole = same _ _ x.cut.whole y.cut.whole i };
+      few = within _ _ x.few y.few i;
+      filled = filled x.filled y.filled i;
+      short = short x.short y.short i;
+    }
 
-answer_told : (search : Search) (a : Result Kind Refusal) → IfOk a (λ kind. kind_named kind ≡ search) → answer search (told a) ≡ a
-answer_told search (Ok kind) named = ap Ok (ap kind_by (sym named) ∙ by_name kind)
-answer_told search (Err BadKind) named = refl
-answer_told search (Err BadEnds) named = refl
-answer_told search (Err TooMany) named = refl
-answer_told search (Err (Empty i)) named = refl
-answer_told search (Err (TooLong i)) named = refl
-
--- so no two answers meet the promise of `List::check`: those that tell the same and name the same kind are the same
-pub told_only : (search : Search) (a b : Result Kind Refusal) → IfOk a (λ kind. kind_named kind ≡ search) → IfOk b (λ kind. kind_named kind ≡ search)
-    → told a ≡ told b → a ≡ b
-told_only search a b named_a named_b e = sym (answer_told search a named_a) ∙ ap (answer search) e ∙ answer_told search b named_b
+-- sound lists of one list are the same: its number names their kind
+pub sound_same : (s t : SoundList) → s.list ≡ t.list → s ≡ t
+sound_same s t l =
+    let named : kind_named s.kind ≡ kind_named t.kind = s.named ∙ ap (λ (u : Lent). kind_of u.kind) l ∙ sym t.named in
+    let k : s.kind ≡ t.kind = sym (by_name s.kind) ∙ ap kind_by named ∙ by_name t.kind in
+    λ i. record {
+      list = l i;
+      kind = k i;
+      sound =
+          is_prop→PathP (λ j. Sound (l j).kind (l j).bytes.now (l j).ends.now (l j).values.now)
+          (λ j. sound_prop (l j).kind (l j).bytes.now (l j).ends.now (l j).values.now) s.sound t.sound i;
+      named = is_prop→PathP (λ j. kind_named (k j) ≡ kind_of (l j).kind) (λ j. hlevel props) s.named t.named i;
+    }
 
 -- an answer handed on from a number that names no kind
-pub tells_kind : (why : Refusal) (r : Result Kind Refusal) → why ≡ BadKind → IsErrAnd r (λ e. e ≡ why) → told r ≡ refused 1 0
-tells_kind why (Ok kind) bad is = absurd is
-tells_kind why (Err e) bad is = ap (λ (w : Refusal). told (Err w)) (is ∙ bad)
+pub tells_kind : {A : Type 0} (why : Refusal) (r : Result A Refusal) → why ≡ BadKind → IsErrAnd r (λ e. e ≡ why) → told r ≡ refused 1 0
+tells_kind why (Ok a) bad is = absurd is
+tells_kind {A} why (Err e) bad is = ap (λ (w : Refusal). told {A = A} (Err w)) (is ∙ bad)
 
 -- an answer that tells nothing is no refusal
-untold_ok : (r : Result Kind Refusal) → told r ≡ none → IsOk r
-untold_ok (Ok kind) e = refl
+untold_ok : {A : Type 0} (r : Result A Refusal) → told r ≡ none → IsOk r
+untold_ok (Ok a) e = refl
 untold_ok (Err BadKind) e = absurd (told_some e)
 untold_ok (Err BadEnds) e = absurd (told_some e)
 untold_ok (Err TooMany) e = absurd (told_some e)
 untold_ok (Err (Empty i)) e = absurd (told_some e)
 untold_ok (Err (TooLong i)) e = absurd (told_some e)
 
-ok_untold : (r : Result Kind Refusal) → IsOk r → told r ≡ none
-ok_untold (Ok kind) ok = refl
+ok_untold : {A : Type 0} (r : Result A Refusal) → IsOk r → told r ≡ none
+ok_untold (Ok a) ok = refl
 ok_untold (Err why) ok = clash ok refl
+
+-- the refusal that tells a number and an index
+abbrev refusal_by : Option Told → Refusal
+refusal_by none = BadKind
+refusal_by (some t) =
+    pick (eqb t.number 1) BadKind
+    (pick (eqb t.number 2) BadEnds
+    (pick (eqb t.number 3) TooMany
+    (pick (eqb t.number 4) (Empty t.index) (TooLong t.index))))
+
+by_told : (why : Refusal) → refusal_by (told {A = SoundList} (Err why)) ≡ why
+by_told BadKind = refl
+by_told BadEnds = refl
+by_told TooMany = refl
+by_told (Empty i) = refl
+by_told (TooLong i) = refl
+
+-- so no two answers meet the promise of `List::check`: those that tell the same are the same, where two that are lists are of one list
+pub told_only : (a b : Result SoundList Refusal) → IfOk a (λ s. IfOk b (λ t. s.list ≡ t.list)) → told a ≡ told b → a ≡ b
+told_only (Ok s) (Ok t) of_one e = ap Ok (sound_same s t of_one)
+told_only (Ok s) (Err why) of_one e = clash (untold_ok {A = SoundList} (Err why) (sym e)) refl
+told_only (Err why) (Ok t) of_one e = clash (untold_ok {A = SoundList} (Err why) e) refl
+told_only (Err why) (Err other) of_one e = ap Err (sym (by_told why) ∙ ap refusal_by e ∙ by_told other)
 
 module _ (kind : ℕ) (bytes ends values : List ℕ) where
   -- the patterns, and what the test of a size says of each
@@ -94,7 +131,7 @@ module _ (kind : ℕ) (bytes ends values : List ℕ) where
   passed over h i l = first_none [] over ps (not_found (first_where over ps) h) i (omega (arith, patterns_length bytes ends))
 
   -- a list of which nothing is told has none of the five conditions
-  untold_sound : lowest (refusals kind bytes ends values) ≡ none → Sound kind bytes ends values
+  pub untold_sound : lowest (refusals kind bytes ends values) ≡ none → Sound kind bytes ends values
   unfolding refusals
   untold_sound e =
       let free : (k : ℕ) → k < 5 → (entry (refusals kind bytes ends values) k).holds ≡ false = none_at (refusals kind bytes ends values) e in
@@ -110,7 +147,7 @@ module _ (kind : ℕ) (bytes ends values : List ℕ) where
       }
 
   -- a list that is fine is sound, and a sound one is fine
-  pub fine_sound : (r : Result Kind Refusal) → told r ≡ lowest (refusals kind bytes ends values) → IsOk r → Sound kind bytes ends values
+  pub fine_sound : {A : Type 0} (r : Result A Refusal) → told r ≡ lowest (refusals kind bytes ends values) → IsOk r → Sound kind bytes ends values
   fine_sound r e ok = untold_sound (sym e ∙ ok_untold r ok)
 
   pub sound_untold : Sound kind bytes ends values → none ≡ lowest (refusals kind bytes ends values)
@@ -120,7 +157,7 @@ module _ (kind : ℕ) (bytes ends values : List ℕ) where
       (sym (first_only [] is_empty ps none (λ j k. let l = s.filled j (omega (arith, patterns_length bytes ends)) in ne_eqb (length (get_or ps j [])) 0 (λ z. omega arith))))
       (sym (first_only [] (exceeds most_bytes) ps none (λ j k. le-ltb most_bytes (length (get_or ps j [])) (s.short j (omega (arith, patterns_length bytes ends))))))
 
-  pub sound_fine : (r : Result Kind Refusal) → told r ≡ lowest (refusals kind bytes ends values) → Sound kind bytes ends values → IsOk r
+  pub sound_fine : {A : Type 0} (r : Result A Refusal) → told r ≡ lowest (refusals kind bytes ends values) → Sound kind bytes ends values → IsOk r
   sound_fine r e s = untold_ok r (e ∙ sym (sound_untold s))
 
   numbers_distinct : distinct (refusals kind bytes ends values) ≡ true

@@ -15,8 +15,8 @@ abbrev pub refused : ℕ → ℕ → Option Told
 refused n i = some (record { number = n; index = i })
 
 -- the number and the index of each answer; none for a list that is fine
-abbrev pub told : Result Kind Refusal → Option Told
-told (Ok kind) = none
+abbrev pub told : {A : Type 0} → Result A Refusal → Option Told
+told (Ok a) = none
 told (Err BadKind) = refused 1 0
 told (Err BadEnds) = refused 2 0
 told (Err TooMany) = refused 3 0

@@ -6,7 +6,7 @@ ghost use Rattle.list.specs.Refusals.{lowest};
 ghost use Rattle.list.specs.Kinds.{kind_of};
 ghost use Rattle.list.specs.Listed.{patterns_of, start_of, end_of, falls, ends_wrong, sized, first_where, refusals};
 ghost use Rattle.list.specs.Answers.{told, placed, Names, kind_named};
-ghost use Rattle.list.specs.Claims.{SoundEnds};
+ghost use Rattle.list.specs.Claims.{Sound, SoundEnds};
 
 pub mod limits;
 
@@ -110,11 +110,20 @@ fn first_sized(ends: &[u32], least: usize, most: usize) -> Option<usize>
     None
 }
 
-impl List<'_> {
-    // The lowest refusal of 1 to 5 that applies, or the kind.
-    pub fn check(self) -> Result<Kind, Refusal>
+// A list that is not refused, with its kind.
+#[derive(Clone, Copy)]
+pub struct SoundList<'a> {
+    pub list: List<'a>,
+    pub kind: Kind,
+    pub ghost sound: { Sound list.kind list.bytes.now list.ends.now list.values.now },
+    pub ghost named: { kind_named kind ≡ kind_of list.kind },
+}
+
+impl<'a> List<'a> {
+    // The lowest refusal of 1 to 5 that applies, or the list as a sound one.
+    pub fn check(self) -> Result<SoundList<'a>, Refusal>
         ensures told { told result ≡ lowest (refusals self.entry.kind self.entry.bytes.now self.entry.ends.now self.entry.values.now) }
-        ensures kind { IfOk result (λ kind. kind_named kind ≡ kind_of self.entry.kind) }
+        ensures list { IfOk result (λ sound. sound.list ≡ self.entry) }
     {
         let kind = Kind::try_from(self.kind)?;
         if self.ends.len() != self.values.len() {
@@ -132,6 +141,6 @@ impl List<'_> {
         if let Some(i) = first_sized(self.ends, MOST_BYTES + 1, self.bytes.len()) {
             return Err(Refusal::TooLong(i as u32));
         }
-        Ok(kind)
+        Ok(SoundList { list: self, kind })
     }
 }

@@ -4,13 +4,12 @@
 ghost use Rattle.std.specs.Prelude.{◌≡◌, ◌≤◌, ◌<◌, length};
 ghost use Rattle.list.specs.Answers.{kind_named};
 ghost use Rattle.list.specs.Limits.{smaller};
-ghost use Rattle.list.specs.Kinds.{kind_of};
-ghost use Rattle.list.specs.Claims.{Bytes, Sound};
+ghost use Rattle.list.specs.Claims.{Bytes};
 ghost use Rattle.trie.specs.Made.{drops_of};
 ghost use Rattle.links.specs.Linked.{is_leftmost};
 ghost use Rattle.nfa.specs.Grown.{counted, GrownOk};
 
-use list::{Kind, List};
+use list::{Kind, SoundList};
 use trie::{FewStates, Grown};
 
 // Whether a kind drops patterns that can't be found.
@@ -36,18 +35,16 @@ fn count(n: usize) -> u32
 
 // The trie of the accepted patterns and its links, unless its states pass the slots lent.
 pub fn grow(
-    kind: Kind,
-    list: List<'_>,
+    sound: SoundList<'_>,
     trie: &mut [[u32; 5]],
     owns: &mut [[u32; 2]],
     notes: &mut [[u32; 6]],
 ) -> Result<Grown, FewStates>
-    requires sound { Sound list.kind list.bytes.now list.ends.now list.values.now }
-    requires named { kind_named kind ≡ kind_of list.kind }
-    ensures grown { GrownOk list.entry.kind list.entry.bytes.now list.entry.ends.now (smaller (length trie.old) (length notes.old))
-        trie.new owns.new notes.new result }
-    ensures letters { Bytes list.entry.bytes.now }
+    ensures grown { GrownOk sound.entry.list.kind sound.entry.list.bytes.now sound.entry.list.ends.now
+        (smaller (length trie.old) (length notes.old)) trie.new owns.new notes.new result }
+    ensures letters { Bytes sound.entry.list.bytes.now }
 {
+    let SoundList { list, kind } = sound;
     let slots = count(trie.len().min(notes.len()));
     let grown = trie::add_all(drops(kind), list.bytes, list.ends, trie, owns, slots)?;
     links::link_all(trie, notes, leftmost(kind));

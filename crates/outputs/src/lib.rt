@@ -1,5 +1,7 @@
 // Inner: the outputs of the trie's states (the crate's `NfaBuilder::build_outputs`) in one lent table. Each state's own outputs are stored
-// last first on the chain of the state that it links to, so a chain shows them in list order. Places count from 1; 0 is none.
+// last first on the chain of the state that it links to, so a chain shows them in list order. Places count from 1; 0 is none. Tables that are
+// written come one by one: in a struct of `&mut`s each of them would need a clause more in every contract, that its reference is still the
+// one lent.
 #![tactic(auto)]
 
 ghost use Rattle.std.specs.Prelude.{◌≡◌, List, [], ◌∷◌, ℕ, ◌<◌, length, get_or, set};
@@ -103,7 +105,7 @@ fn store_state(
     stored: u32,
 ) -> u32
     requires stackable { Stackable owns.now values.now (length outs.old) (field trie.now s.0 4) stored }
-    requires s_in_bounds { (s.0 < length trie.now) × (s.0 < length notes.old) × (field notes.old s.0 1 < length notes.old) }
+    requires state_there { (s.0 < length trie.now) × (s.0 < length notes.old) × (field notes.old s.0 1 < length notes.old) }
     ensures { (n : ℕ) (own : List Entry) → Pile (owns_of owns.now) n (field trie.now s.0 4) own
         → Sized (field trie.now s.0 3) own
         → Stacked values.now own s.0 stored notes.old notes.new

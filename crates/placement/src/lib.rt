@@ -1,4 +1,6 @@
 // Inner: each group gets its base, and each state its cell (the crate's `BuildHelper::new`), in the order of a lent table of groups.
+// The tables come one by one, since most are written: in a struct of `&mut`s each would need a clause more in every contract, that its reference is
+// still the one lent.
 #![tactic(auto)]
 
 ghost use Rattle.std.specs.Prelude.{◌≡◌, List, ℕ, ◌<◌, length};

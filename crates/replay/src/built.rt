@@ -1,13 +1,9 @@
 // A case whose tables are built of a list, over so many lent slots of each table: the answer, and every element that was lent.
-ghost use Rattle.std.specs.Prelude.{◌≤◌, IfOk};
-
-use crate::case::{Case, Sequence, Stop, Unreadable};
-use crate::results::Results;
+use crate::case::{Case, Sequence, Stop};
 use crate::searches::compare_texts;
 use build::{Refusal, build};
 use list::List;
-use std::alloc::Global;
-use table::{Counts, Depth};
+use table::{Counts, Depth, Tables};
 
 // The room of a list. One that is a little above a limit has to fit, since its refusal is compared.
 const BYTES: usize = 65600;
@@ -25,16 +21,6 @@ const OUTPUTS: usize = 1100;
 // What each number is before a build, so that one that is left as it was can be told from one that is made 0.
 const BEFORE: u32 = 7;
 
-// The lent tables of a build.
-#[derive(Drop)]
-struct Lent {
-    trie: Vec<[u32; 5]>,
-    owns: Vec<[u32; 2]>,
-    notes: Vec<[u32; 6]>,
-    spots: Vec<[u32; 2]>,
-    results: Results,
-}
-
 // What is told of tables that were not built.
 const NO_COUNTS: Counts = Counts {
     kind: 0,
@@ -43,54 +29,18 @@ const NO_COUNTS: Counts = Counts {
     cells: 0,
 };
 
-// How many slots are lent of a table. A case that lends more than there is room for cannot be run.
-fn slots(case: &mut Case<'_>, room: usize) -> Result<usize, Unreadable>
-    ensures { IfOk result (λ slots. slots ≤ room) }
-{
-    let slots = case.number()? as usize;
-    if room < slots {
-        return Err(Unreadable);
-    }
-    Ok(slots)
+// The working tables of a build.
+#[derive(Clone, Copy)]
+struct Working<'a> {
+    trie: &'a [[u32; 5]],
+    owns: &'a [[u32; 2]],
+    notes: &'a [[u32; 6]],
+    spots: &'a [[u32; 2]],
 }
 
-impl Lent {
-    // As many slots of each table as are recorded.
-    fn recorded(case: &mut Case<'_>, alloc: Global) -> Result<Lent, Stop> {
-        Ok(Lent {
-            trie: vec![in alloc; [BEFORE; 5]; slots(case, STATES)?]?,
-            owns: vec![in alloc; [BEFORE; 2]; slots(case, OUTPUTS)?]?,
-            notes: vec![in alloc; [BEFORE; 6]; slots(case, STATES)?]?,
-            spots: vec![in alloc; [BEFORE; 2]; slots(case, CELLS)?]?,
-            results: Results {
-                base: vec![in alloc; BEFORE; slots(case, CELLS)?]?,
-                link: vec![in alloc; BEFORE; slots(case, CELLS)?]?,
-                output: vec![in alloc; BEFORE; slots(case, CELLS)?]?,
-                check: vec![in alloc; BEFORE as u8; slots(case, CELLS)?]?,
-                depth: vec![in alloc; BEFORE as Depth; slots(case, CELLS)?]?,
-                outs: vec![in alloc; [BEFORE; 3]; slots(case, OUTPUTS)?]?,
-            },
-        })
-    }
-
-    fn build(&mut self, list: List<'_>) -> Result<Counts, Refusal> {
-        build(
-            list,
-            &mut self.trie,
-            &mut self.owns,
-            &mut self.notes,
-            &mut self.spots,
-            &mut self.results.base,
-            &mut self.results.link,
-            &mut self.results.output,
-            &mut self.results.check,
-            &mut self.results.depth,
-            &mut self.results.outs,
-        )
-    }
-
-    // Of the working tables nothing is recorded: each number is to be `rest`.
-    fn judge_working(&self, case: &mut Case<'_>, rest: u32) -> Result<(), Stop> {
+impl Working<'_> {
+    // Nothing is recorded of them: each number is to be `rest`.
+    fn judge(self, case: &mut Case<'_>, rest: u32) -> Result<(), Stop> {
         let nothing = Sequence::empty();
         case.judge_elements("trie", nothing, self.trie.as_flattened(), rest)?;
         case.judge_elements("owns", nothing, self.owns.as_flattened(), rest)?;
@@ -99,7 +49,7 @@ impl Lent {
     }
 }
 
-// A refusal by its number, and the index that 4 and 5 name.
+// A refusal by its number, and the index that 4 and 5 name. The judge has its own numbers, as recorded, and takes none from `boundary`.
 fn number_of(refusal: Refusal) -> (u32, u32) {
     match refusal {
         Refusal::BadKind => (1, 0),
@@ -138,27 +88,94 @@ fn parts(built: Result<Counts, Refusal>) -> [u64; 6] {
     ]
 }
 
-// The list as it is handed over: its ends need not cut the bytes, nor values and ends be equally many.
-pub(crate) fn compare_built(case: &mut Case<'_>, alloc: Global, shown: bool) -> Result<(), Stop> {
-    let kind = case.number()?;
-    let bytes: Vec<u8> = case.column(alloc, BYTES)?;
-    let ends: Vec<u32> = case.column(alloc, LISTED)?;
-    let values: Vec<u32> = case.column(alloc, LISTED)?;
-    let mut lent = Lent::recorded(case, alloc)?;
-    let built = lent.build(List {
-        kind,
-        bytes: &bytes,
-        ends: &ends,
-        values: &values,
-    });
+// Holds the columns of the cells to what is recorded of them.
+fn judge_columns(case: &mut Case<'_>, tables: &Tables<'_>, rest: u32) -> Result<(), Stop> {
+    case.judge_column("base", tables.base, rest)?;
+    case.judge_column("link", tables.link, rest)?;
+    case.judge_column("output", tables.output, rest)?;
+    case.judge_column("check", tables.check, rest)?;
+    case.judge_column("depth", tables.depth, rest)
+}
+
+fn judge_outs(case: &mut Case<'_>, outs: &[[u32; 3]], rest: u32) -> Result<(), Stop> {
+    let sequence = case.sequence();
+    let numbers = outs.as_flattened();
+    case.judge_elements("outs", sequence.in_rows(), numbers, rest)?;
+    Ok(case.pass_sequence(sequence)?)
+}
+
+// Holds a build's answer, and then every number that was lent, to what is recorded.
+fn compare_made(
+    case: &mut Case<'_>,
+    built: Result<Counts, Refusal>,
+    working: Working<'_>,
+    tables: &Tables<'_>,
+    shown: bool,
+) -> Result<(), Stop> {
     let due = case.take::<6>()?.map(u64::from);
     case.judge(PARTS, 0, &due, &parts(built))?;
     let rest = left(built);
     if shown {
-        lent.results.judge_columns(case, rest)?;
+        judge_columns(case, tables, rest)?;
     }
-    lent.judge_working(case, rest)?;
-    lent.results.judge_outs(case, rest)?;
-    let counts = built.unwrap_or(NO_COUNTS);
-    compare_texts(case, alloc, &lent.results.lend(counts))
+    working.judge(case, rest)?;
+    judge_outs(case, tables.outs, rest)?;
+    compare_texts(case, tables)
+}
+
+// One build. The tables are arrays, as all here, and as many slots of each are lent as are recorded.
+fn compare_build(case: &mut Case<'_>, list: List<'_>, shown: bool) -> Result<(), Stop> {
+    let mut trie = [[BEFORE; 5]; STATES];
+    let mut owns = [[BEFORE; 2]; OUTPUTS];
+    let mut notes = [[BEFORE; 6]; STATES];
+    let mut spots = [[BEFORE; 2]; CELLS];
+    let mut base = [BEFORE; CELLS];
+    let mut link = [BEFORE; CELLS];
+    let mut output = [BEFORE; CELLS];
+    let mut check = [BEFORE as u8; CELLS];
+    let mut depth = [BEFORE as Depth; CELLS];
+    let mut outs = [[BEFORE; 3]; OUTPUTS];
+    let trie = case.lend(&mut trie)?;
+    let owns = case.lend(&mut owns)?;
+    let notes = case.lend(&mut notes)?;
+    let spots = case.lend(&mut spots)?;
+    let base = case.lend(&mut base)?;
+    let link = case.lend(&mut link)?;
+    let output = case.lend(&mut output)?;
+    let check = case.lend(&mut check)?;
+    let depth = case.lend(&mut depth)?;
+    let outs = case.lend(&mut outs)?;
+    let built = build(
+        list, trie, owns, notes, spots, base, link, output, check, depth, outs,
+    );
+    let working = Working {
+        trie,
+        owns,
+        notes,
+        spots,
+    };
+    let tables = Tables {
+        base,
+        link,
+        output,
+        check,
+        depth,
+        outs,
+        counts: built.unwrap_or(NO_COUNTS),
+    };
+    compare_made(case, built, working, &tables, shown)
+}
+
+// The list as it is handed over: its ends need not cut the bytes, nor values and ends be equally many.
+pub(crate) fn compare_built(case: &mut Case<'_>, shown: bool) -> Result<(), Stop> {
+    let mut bytes = [0; BYTES];
+    let mut ends = [0; LISTED];
+    let mut values = [0; LISTED];
+    let list = List {
+        kind: case.number()?,
+        bytes: case.column(&mut bytes)?,
+        ends: case.column(&mut ends)?,
+        values: case.column(&mut values)?,
+    };
+    compare_build(case, list, shown)
 }

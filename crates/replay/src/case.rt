@@ -1,7 +1,6 @@
 // A case as it is read and judged: its numbers, one after the other, and the sequences among them, of which only the first numbers are told
 // where the others are zero or repeat them.
 use crate::tally::Tally;
-use std::alloc::{AllocError, Global};
 use std::convert::TryFrom;
 use std::io;
 
@@ -13,7 +12,7 @@ pub(crate) struct Unreadable;
 #[derive(Drop)]
 pub(crate) enum Stop {
     Unreadable,
-    // What differs could not be told, or memory ran out.
+    // What differs could not be told.
     Io(io::Error),
 }
 
@@ -26,12 +25,6 @@ impl From<Unreadable> for Stop {
 impl From<io::Error> for Stop {
     fn from(error: io::Error) -> Stop {
         Stop::Io(error)
-    }
-}
-
-impl From<AllocError> for Stop {
-    fn from(error: AllocError) -> Stop {
-        Stop::Io(io::Error::from(error))
     }
 }
 
@@ -103,16 +96,15 @@ impl<'a> Sequence<'a> {
     }
 
     // Its elements, if there is room for so many and each fits.
-    fn collect<T: TryFrom<u32> + Drop>(self, alloc: Global, room: usize) -> Result<Vec<T>, Stop>
+    fn fill<T: TryFrom<u32> + Copy>(self, room: &mut [T]) -> Result<&[T], Unreadable>
     where
         T::Error: Drop,
     {
-        if room < self.length {
-            return Err(Stop::Unreadable);
+        let slots = room.get_mut(..self.length).ok_or(Unreadable)?;
+        for (k, slot) in slots.iter_mut().enumerate() {
+            *slot = T::try_from(self.element(k)).map_err(|_| Unreadable)?;
         }
-        (0..self.length)
-            .map(|k| T::try_from(self.element(k)).map_err(|_| Stop::Unreadable))
-            .try_collect(alloc)
+        Ok(slots)
     }
 }
 
@@ -172,26 +164,34 @@ impl<'a> Case<'a> {
     }
 
     // The elements of the sequence that is next, if there is room for so many and each fits.
-    pub(crate) fn column<T: TryFrom<u32> + Drop>(
+    pub(crate) fn column<'r, T: TryFrom<u32> + Copy>(
         &mut self,
-        alloc: Global,
-        room: usize,
-    ) -> Result<Vec<T>, Stop>
+        room: &'r mut [T],
+    ) -> Result<&'r [T], Unreadable>
     where
         T::Error: Drop,
     {
         let sequence = self.sequence();
-        let column = sequence.collect(alloc, room)?;
+        let column = sequence.fill(room)?;
         self.pass_sequence(sequence)?;
         Ok(column)
     }
 
     // The rows of the sequence that is next, if there is room for so many.
-    pub(crate) fn rows(&mut self, alloc: Global, room: usize) -> Result<Vec<[u32; 3]>, Stop> {
+    pub(crate) fn rows<'r>(
+        &mut self,
+        room: &'r mut [[u32; 3]],
+    ) -> Result<&'r [[u32; 3]], Unreadable> {
         let sequence = self.sequence();
-        let numbers: Vec<u32> = sequence.in_rows().collect(alloc, room.saturating_mul(3))?;
+        let numbers = sequence.in_rows().fill(room.as_flattened_mut())?;
         self.pass_sequence(sequence)?;
-        Ok(Vec::from_slice(alloc, numbers.as_chunks::<3>().0)?)
+        Ok(numbers.as_chunks::<3>().0)
+    }
+
+    // So many slots of a table as the next number says. A case that lends more than there is room for cannot be run.
+    pub(crate) fn lend<'r, T>(&mut self, room: &'r mut [T]) -> Result<&'r mut [T], Unreadable> {
+        let count = self.number()? as usize;
+        room.get_mut(..count).ok_or(Unreadable)
     }
 
     // A case ends where all of its numbers are read.

@@ -1,7 +1,6 @@
 // The numbers of standard input, a case at a time. Blanks, line ends and remarks part them and count for nothing; a semicolon ends a case.
 use crate::case::{Case, Unreadable};
 use crate::tally::Tally;
-use std::alloc::{AllocError, Global};
 
 // The room of a case.
 const NUMBERS: usize = 100000;
@@ -31,19 +30,19 @@ impl Within {
 pub(crate) struct Reading {
     // The room of a case. It is kept, and not cleared: past the case's own numbers stand those of earlier cases, to which a case that is cut
     // short within a column is still held before it is found to be so.
-    room: Vec<u32>,
+    room: [u32; NUMBERS],
     // How many numbers the case has so far.
     count: usize,
     within: Within,
 }
 
 impl Reading {
-    pub(crate) fn new(alloc: Global) -> Result<Reading, AllocError> {
-        Ok(Reading {
-            room: vec![in alloc; 0u32; NUMBERS]?,
+    pub(crate) fn new() -> Reading {
+        Reading {
+            room: [0; NUMBERS],
             count: 0,
             within: Within::Blanks,
-        })
+        }
     }
 
     // The case that is read.
@@ -56,9 +55,13 @@ impl Reading {
         self.within = Within::Blanks;
     }
 
-    // Whether there is some of a case, though no end of it.
-    pub(crate) fn is_within_case(&self) -> bool {
-        0 < self.count || matches!(self.within, Within::Number(_))
+    // The input may end only between cases.
+    pub(crate) fn end(&self) -> Result<(), Unreadable> {
+        if 0 < self.count || matches!(self.within, Within::Number(_)) {
+            Err(Unreadable)
+        } else {
+            Ok(())
+        }
     }
 
     // A number ends where reading comes to stand in something else.

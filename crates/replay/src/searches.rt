@@ -2,7 +2,6 @@
 // was handed back before.
 use crate::case::{Case, Stop, Unreadable};
 use search::{Answer, Match, Refusal, Search};
-use std::alloc::Global;
 use table::{CellId, Tables};
 
 // The room of a text: one byte more than a text may have, and a little more.
@@ -43,6 +42,7 @@ impl From<Answer> for Told {
     }
 }
 
+// As recorded: the judge has its own numbers.
 fn number_of(refusal: Refusal) -> u32 {
     match refusal {
         Refusal::WrongKind => 9,
@@ -150,22 +150,18 @@ fn compare_course<F: Fn(Search) -> Answer>(
 }
 
 // All three searches, from the same value.
-fn compare_text(case: &mut Case<'_>, alloc: Global, tables: &Tables<'_>) -> Result<(), Stop> {
-    let text: Vec<u8> = case.column(alloc, TEXT)?;
-    let text = &text;
+fn compare_text(case: &mut Case<'_>, tables: &Tables<'_>) -> Result<(), Stop> {
+    let mut room = [0; TEXT];
+    let text = case.column(&mut room)?;
     let start = recorded_start(case)?;
     compare_course(case, start, |value| value.next_overlapping(tables, text))?;
     compare_course(case, start, |value| value.next_plain(tables, text))?;
     compare_course(case, start, |value| value.next_leftmost(tables, text))
 }
 
-pub(crate) fn compare_texts(
-    case: &mut Case<'_>,
-    alloc: Global,
-    tables: &Tables<'_>,
-) -> Result<(), Stop> {
+pub(crate) fn compare_texts(case: &mut Case<'_>, tables: &Tables<'_>) -> Result<(), Stop> {
     for _ in 0..case.number()? {
-        compare_text(case, alloc, tables)?;
+        compare_text(case, tables)?;
     }
     Ok(())
 }

@@ -27,7 +27,7 @@ const ROOT: u32 = 0;
 #[derive(Clone, Copy, Debug, PartialEq, Eq)]
 pub struct Search {
     pub state: CellId,
-    // The place of the output that is given next, 0 for none.
+    // The place of the output that is given next, 0 for none. It is a number and no Option, since C lends it so and any number may come.
     pub output: u32,
     // How many bytes of the text are taken.
     pub place: usize,
@@ -104,7 +104,8 @@ impl Search {
         moved(self.state, 0, self.place, self.moves)
     }
 
-    // Overlapping search: after each byte, the whole output chain.
+    // Overlapping search: after each byte, the whole output chain. Here and in the two below a refusal goes out by a `return`: an `Answer` is no Result, so
+    // `?` doesn't serve.
     pub fn next_overlapping(self, tables: &Tables<'_>, text: &[u8]) -> Answer
         ensures { answer result ≡ next_of overlapping (lent tables.now) tables.now.counts.kind text.now self }
     {
@@ -172,7 +173,7 @@ pub trait Searching {
     fn next(value: Search, tables: &Tables<'_>, text: &[u8]) -> Answer
         ensures { answer result ≡ next_of which (lent tables.now) tables.now.counts.kind text.now value };
 
-    // Whether tables of this kind are for another search.
+    // Whether tables of this kind are for another search. The kind is a number, since tables of any may be lent: one above 2 is for no other search.
     fn is_other(kind: u32) -> bool
         ensures { result ≡ other_kind (is_leftmost which) kind };
 }

@@ -12,7 +12,7 @@ use table::{CellId, Damage, Depth, Tables};
 // Dead's cell: a leftmost link leads there where an accepted pattern has ended before.
 const DEAD: u32 = 1;
 
-// Nothing to do: no depth is deep, by its type, so that a byte costs few moves.
+// A lemma in the form of a call, with nothing to do: no depth is deep, by its type, so that a byte costs few moves.
 pub(crate) fn shallow(depth: &[Depth])
     ensures { Shallow depth.now }
 {}
@@ -32,7 +32,8 @@ fn leftmost_at(leftmost: bool, s: CellId, cell: u32) -> bool
     leftmost && s.0 == cell
 }
 
-// The state after a byte, and the moves. Each link is one move, and so is the byte.
+// The state after a byte, and the moves. Each link is one move, and so is the byte. The links are a chain: each turn's state says which is next, so no
+// `for` says it.
 #[inline(always)]
 pub(crate) fn take(
     leftmost: bool,

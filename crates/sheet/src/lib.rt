@@ -38,7 +38,7 @@ fn record(found: Match) -> [usize; 3]
     [found.start, found.end, found.value as usize]
 }
 
-// How a call with an empty sheet stops.
+// How a call with an empty sheet stops. The kind is a number, since tables of any may be lent: one that is of no kind is told where a search looks.
 fn at_once<S: Searching>(kind: u32, length: usize) -> Stop
     ensures { stop_of result ≡ at_once (lowest (barred (is_leftmost S.which) kind length)) }
 {
@@ -71,10 +71,10 @@ pub fn fill<S: Searching>(
         };
     }
     let mut at = value;
-    for count in 0..slots {
+    for (count, slot) in sheet.iter_mut().enumerate() {
         match S::next(at, tables, text) {
             Answer::Match(found, next) => {
-                sheet[count] = record(found);
+                *slot = record(found);
                 at = next;
             }
             Answer::End(last) => {

@@ -1,6 +1,7 @@
 // Inner: which cells are taken and which bases are used, in lent rows, and the hunt for a group's base (the crate's `BuildHelper`). A row
 // of a taken cell says how many cells from it on are taken for certain, so that the look for a vacant cell passes them at once. Cells only
-// become taken, so what a row says stays true.
+// become taken, so what a row says stays true. The tables come one by one, since the rows are written: in a struct of `&mut`s each table would
+// need a clause more in every contract, that its reference is still the one lent.
 #![tactic(auto)]
 
 ghost use Rattle.std.specs.Prelude.{◌≡◌, not, List, ℕ, ◌+◌, ◌≤◌, ◌<◌, eqb, length};
@@ -9,8 +10,7 @@ ghost use Rattle.paper.specs.Patterns.{Entry};
 ghost use Rattle.list.specs.Limits.{block, most_cells};
 ghost use Rattle.plan.specs.Groups.{Group};
 ghost use Rattle.plan.specs.Placement.{Layout, first_where, fits};
-ghost use Rattle.spots.specs.Charted.{with_taken, with_used, Charted, Next, Stretch, StretchSome, Seek, SeekSome, Try, TrySome};
-ghost use Rattle.spots.specs.Charted.{room_at, GroupAt, FoundBase, based};
+ghost use Rattle.spots.specs.Charted.{with_taken, with_used, Charted, Next, Stretch, StretchSome, Seek, SeekSome, Try, TrySome, room_at, GroupAt, FoundBase, based};
 
 use list::limits::BLOCK;
 use trie::TrieId;

@@ -36,7 +36,8 @@ pub struct Counts {
 #[derive(Clone, Copy, Debug, PartialEq, Eq)]
 pub struct Damage;
 
-// An output: the value and the length of its pattern, and the place of the next output, 0 for none.
+// An output: the value and the length of its pattern, and the place of the next output, 0 for none. C lends the places so, and a row of any
+// numbers may be lent: `output` says of a place whether one stands there.
 #[derive(Clone, Copy, Debug, PartialEq, Eq)]
 pub struct Row {
     pub value: u32,
@@ -44,7 +45,8 @@ pub struct Row {
     pub next: u32,
 }
 
-// The tables as a search is lent them: five columns of cells, the rows of the outputs, and what the build said of them.
+// The tables as a search is lent them: five columns of cells, the rows of the outputs, and what the build said of them. C lends the columns, one
+// slice a field, so a cell is no struct.
 #[derive(Clone, Copy)]
 pub struct Tables<'a> {
     pub base: &'a [u32],
@@ -82,7 +84,7 @@ impl Tables<'_> {
             if b == 0 {
                 return Ok(None);
             }
-            let t = b ^ (byte as u32);
+            let t = b ^ u32::from(byte);
             if is_there(cells, self.check.len(), t) {
                 if self.check[t as usize] == byte {
                     return Ok(Some(CellId(t)));

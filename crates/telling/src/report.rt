@@ -30,6 +30,7 @@ fn count_matches<S: Searching>(job: Job<'_>) -> Tally {
         others: 0,
     };
     for found in Matches::<S>::of(job) {
+        // A refusal ends the count. The pass that prints meets it again, and tells it.
         let Ok(found) = found else {
             return tally;
         };
@@ -42,6 +43,8 @@ fn count_matches<S: Searching>(job: Job<'_>) -> Tally {
     tally
 }
 
+// What is printed of a match, the heading and the last line are put by functions and not by types with `Display`: a name or a code in them is
+// bytes and no text.
 fn put_match(
     line: &mut Line,
     hazard: bool,
@@ -72,7 +75,7 @@ fn print_sort<S: Searching>(out: Stdout, hazards: bool, job: Job<'_>) -> Result<
     Ok(())
 }
 
-// A number and what it counts.
+// A number and what it counts. A type with `Display` would hold the same three parts, and be written out at each call.
 fn put_counted(line: &mut Line, number: u64, one: &str, many: &str) -> io::Result<()> {
     let what = if number == 1 { one } else { many };
     write!(line, "{number} {what}")

@@ -3,7 +3,7 @@ use crate::job::Job;
 use crate::matches::Matches;
 use crate::numbers::print_numbers;
 use crate::report::print_report;
-use crate::trouble::Stopped;
+use crate::trouble::{Stopped, Trouble};
 use desk::words::Way;
 use search::{Leftmost, Overlapping, Plain, Searching};
 
@@ -24,17 +24,18 @@ fn print<S: Searching>(
     }
 }
 
-// The sheet is told by its name.
-pub fn tell_all(
+// The sheet is told by its name. The search is a word of the command line, known only when it runs: here alone a type is made of it.
+pub fn tell_all<'a>(
     rt: &HostRuntime,
     way: Way,
     numbers: bool,
-    name: &[u8],
+    name: &'a [u8],
     job: Job<'_>,
-) -> Result<(), Stopped> {
-    match way {
+) -> Result<(), Trouble<'a>> {
+    let told = match way {
         Way::Overlapping => print::<Overlapping>(rt, numbers, name, job),
         Way::Plain => print::<Plain>(rt, numbers, name, job),
         Way::Longest | Way::First => print::<Leftmost>(rt, numbers, name, job),
-    }
+    };
+    told.map_err(|why| why.about(name))
 }

@@ -1,6 +1,8 @@
 // Why the command prints no result, or not the whole of it: told in one line on standard error.
 use crate::lines::{Line, Name, write_line};
+use desk::codes;
 use desk::words::Fault;
+use list::limits::MOST_LISTED;
 use search::Refusal;
 use std::fmt::{Display, InlineText};
 use std::io;
@@ -35,6 +37,22 @@ impl From<Utf8Error> for Matter {
     }
 }
 
+// A list that cannot be read.
+impl From<codes::Fault> for Matter {
+    fn from(fault: codes::Fault) -> Self {
+        match fault {
+            codes::Fault::BadValue(line) => Matter::UnfitLine(
+                line,
+                "the value before the TAB is not a number from 0 to 4294967295",
+            ),
+            codes::Fault::TooMany => Matter::UnfitLine(
+                MOST_LISTED,
+                "refusal 3: more than 1024 lines",
+            ),
+        }
+    }
+}
+
 // A sheet that cannot be searched. 9 and 11 cannot be met here: the kind is the search's, and the tables are as the build left them.
 impl From<Refusal> for Matter {
     fn from(why: Refusal) -> Self {
@@ -48,7 +66,7 @@ impl From<Refusal> for Matter {
 
 // Why a result is not printed to its end.
 #[derive(Drop)]
-pub enum Stopped {
+pub(crate) enum Stopped {
     // Standard output takes no more, and why.
     Unwritten(io::Error),
     Refused(Refusal),
@@ -68,7 +86,7 @@ impl From<Refusal> for Stopped {
 
 impl Stopped {
     // What is to be told of a sheet of this name.
-    pub fn about(self, sheet: &[u8]) -> Trouble<'_> {
+    pub(crate) fn about(self, sheet: &[u8]) -> Trouble<'_> {
         match self {
             Stopped::Unwritten(why) => Trouble::Unwritten(why),
             Stopped::Refused(why) => Trouble::File(sheet, Matter::from(why)),
@@ -79,7 +97,7 @@ impl Stopped {
 #[derive(Drop)]
 pub enum Trouble<'a> {
     // The words of the command, with the one that is not taken, if there is such a one.
-    Words(Fault, Name),
+    Words(Fault, Option<Name>),
     // A file, by its name.
     File(&'a [u8], Matter),
     // Standard output takes no more.
@@ -91,7 +109,7 @@ impl Trouble<'_> {
         let mut line = Line::new();
         write!(line, "yard: ")?;
         match self {
-            Trouble::Words(fault, word) => put_fault(&mut line, fault, word.as_bytes())?,
+            Trouble::Words(fault, word) => put_fault(&mut line, fault, word)?,
             Trouble::File(name, matter) => {
                 line.put_shown(name);
                 put_matter(&mut line, matter)?;
@@ -106,8 +124,9 @@ impl Trouble<'_> {
     }
 }
 
-// The words that are not taken, and a hint.
-fn put_fault(line: &mut Line, fault: Fault, word: &[u8]) -> io::Result<()> {
+// The words that are not taken, and a hint. No `Display`, nor below: the word is bytes and no text, and a matter may hold a reason of the system, which
+// `put_reason` shortens in a room of its own.
+fn put_fault(line: &mut Line, fault: Fault, word: Option<Name>) -> io::Result<()> {
     let what = match fault {
         Fault::UnknownOption => "unknown option ",
         Fault::UnknownSearch => "unknown search ",
@@ -117,7 +136,9 @@ fn put_fault(line: &mut Line, fault: Fault, word: &[u8]) -> io::Result<()> {
         Fault::LongWord => "a word of the command line is too long",
     };
     write!(line, "{what}")?;
-    line.put_shown(word);
+    if let Some(word) = word {
+        line.put_shown(word.as_bytes());
+    }
     write!(line, " (yard --help tells how to ask)")
 }
 

@@ -1,5 +1,6 @@
 // Inner: the trie of the accepted patterns (the crate's `NfaBuilder::add`) in lent rows, a row for each state. Callers show that the rows
-// hold the trie of some names; what a function promises holds for whatever names they are.
+// hold the trie of some names; what a function promises holds for whatever names they are. Tables that are written come one by one: in a
+// struct of `&mut`s each of them would need a clause more in every contract, that its reference is still the one lent.
 #![tactic(auto)]
 
 ghost use Rattle.std.specs.Prelude.{◌≡◌, ◌&&◌, List, [], ◌∷◌, ℕ, ◌+◌, ◌≤◌, ◌<◌, length, get_or, set};
@@ -32,7 +33,8 @@ const DEPTH: usize = 3;
 
 const OWN: usize = 4;
 
-// The child with the lowest byte; root, which is no child, where there is none.
+// The child with the lowest byte; root, which is no child, where there is none. A bound ties a state's number to a table, so no type of the
+// number alone can hold it: here and below each contract says it anew.
 pub fn first_child(trie: &[[u32; 5]], s: TrieId) -> TrieId
     requires { s.0 < length trie.now }
     ensures { result.0 ≡ field trie.now s.0 0 }
@@ -76,7 +78,8 @@ pub fn own(trie: &[[u32; 5]], s: TrieId) -> u32
 #[derive(Clone, Copy, Drop)]
 pub struct Siblings<'a> {
     trie: &'a [[u32; 5]],
-    // The child that comes next; root where none is left.
+    // The child that comes next; root where none is left. It is the rows' own 0: an `Option` would be made at each turn and taken apart at
+    // the next.
     next: TrieId,
 }
 
@@ -110,7 +113,8 @@ pub fn children(trie: &[[u32; 5]], s: TrieId) -> Siblings<'_>
     }
 }
 
-// Between which two children of a state a byte that none of them has would go; root where there is none.
+// Between which two children of a state a byte that none of them has would go; root where there is none. An
+// insertion writes both back into the rows, where none is 0, so an `Option` would be taken apart there.
 #[derive(Clone, Copy, Debug, PartialEq, Eq)]
 pub struct Gap {
     pub prev: TrieId,
@@ -139,7 +143,7 @@ pub fn locate(trie: &[[u32; 5]], s: TrieId, byte: u32) -> Result<TrieId, Gap>
     })
 }
 
-// Each of the three writes one field.
+// The three setters below write one field each.
 fn set_first(trie: &mut [[u32; 5]], s: TrieId, t: TrieId)
     requires { s.0 < length trie.old }
     ensures { trie.new ≡ with_first trie.old s.0 t.0 }
@@ -204,7 +208,7 @@ struct Added {
 // The states of one pattern: those that are there, then those that are made.
 fn add(trie: &mut [[u32; 5]], states: u32, slots: u32, part: &[u8]) -> Result<Added, FewStates>
     requires counted { Counted trie.old states }
-    requires states_le_slots { (states ≤ slots) × (slots ≤ length trie.old) × (length part.now ≤ most_bytes) }
+    requires room { (states ≤ slots) × (slots ≤ length trie.old) × (length part.now ≤ most_bytes) }
     ensures { (names : List (List ℕ)) → Trie alphabet (slots_of trie.old) names → states ≡ length names
         → AddedOk slots (slots_of trie.old) (slots_of trie.new) names part.now result }
 {
@@ -251,7 +255,8 @@ fn is_barred(trie: &[[u32; 5]], part: &[u8]) -> bool
     false
 }
 
-// Whether a kind that drops drops this pattern.
+// Whether a kind that drops drops this pattern. `drops`, here and below, is what the kind means to this step, not which
+// step to run.
 fn dropped(trie: &[[u32; 5]], drops: bool, part: &[u8]) -> bool
     requires { Known trie.now 0 }
     ensures { (names : List (List ℕ)) (es : List Entry) → Trie alphabet (slots_of trie.now) names → Owned (slots_of trie.now) names es
@@ -309,7 +314,7 @@ fn add_one(
     part: &[u8],
 ) -> Result<Grown, FewStates>
     requires made_some { MadeSome trie.old owns.old grown.states grown.accepted }
-    requires states_le_slots { (grown.states ≤ slots) × (slots ≤ length trie.old) × (grown.accepted < most_listed) × (length part.now ≤ most_bytes) }
+    requires room { (grown.states ≤ slots) × (slots ≤ length trie.old) × (grown.accepted < most_listed) × (length part.now ≤ most_bytes) }
     ensures { (es : List Entry) → Made (slots_of trie.old) (owns_of owns.old) grown.states grown.accepted (length owns.old) es
         → GrewOk slots (slots_of trie.new) (owns_of owns.new) (length owns.old) (grown_by drops es (entry row part.now)) result }
 {
@@ -336,7 +341,7 @@ pub fn add_all(
     requires { Parted bytes.now ends.now × (slots ≤ length trie.old) }
     ensures grown { GrewOk slots (slots_of trie.new) (owns_of owns.new) (length owns.old)
         (accept_on drops [] (rows (patterns_of bytes.now ends.now))) result }
-    // Callers that have the bytes in a struct know this of them from here alone, so the list comes by its two slices.
+    // Of bytes in a struct a proof doesn't know that each is below 256, so they come as slices, and callers learn it from here.
     ensures letters { Bytes bytes.now }
 {
     if slots < 2 {

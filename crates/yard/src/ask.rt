@@ -4,13 +4,6 @@ use std::env::{Env, FillError};
 use telling::lines::{NAME, Name};
 use telling::trouble::Trouble;
 
-// What is asked of the command.
-#[derive(Drop)]
-pub(crate) enum Asked {
-    Help,
-    Work(Request),
-}
-
 // A search, whether numbers are wanted, and the names of the two files.
 #[derive(Drop)]
 pub(crate) struct Request {
@@ -33,12 +26,12 @@ fn word_at(rt: &HostRuntime, i: usize) -> Result<Option<Name>, Trouble<'static>>
     match rt.arg(i, &mut room) {
         Ok(size) => Ok(Some(name_of(&room[..size]))),
         Err(FillError::NotPresent) => Ok(None),
-        Err(FillError::TooLong) => Err(Trouble::Words(Fault::LongWord, Name::new())),
+        Err(FillError::TooLong) => Err(Trouble::Words(Fault::LongWord, None)),
     }
 }
 
-// Without names the files are the crew's own.
-pub(crate) fn ask(rt: &HostRuntime) -> Result<Asked, Trouble<'static>> {
+// None where help is asked for and no work. Without names the files are the crew's own.
+pub(crate) fn ask(rt: &HostRuntime) -> Result<Option<Request>, Trouble<'static>> {
     let mut wish = Wish::first();
     let mut list = name_of(b"crew/codes.txt");
     let mut sheet = name_of(b"crew/sheet.txt");
@@ -47,20 +40,18 @@ pub(crate) fn ask(rt: &HostRuntime) -> Result<Asked, Trouble<'static>> {
             break;
         };
         match wish.take(word.as_bytes()) {
-            Ok(Word::Option) => {}
+            Ok(Word::Setting) => {}
             Ok(Word::List) => list = word,
             Ok(Word::Sheet) => sheet = word,
-            Ok(Word::Help) => return Ok(Asked::Help),
-            Err(fault) => return Err(Trouble::Words(fault, word)),
+            Ok(Word::Help) => return Ok(None),
+            Err(fault) => return Err(Trouble::Words(fault, Some(word))),
         }
     }
-    match wish.end() {
-        Ok(()) => Ok(Asked::Work(Request {
-            way: wish.way,
-            numbers: wish.numbers,
-            list,
-            sheet,
-        })),
-        Err(fault) => Err(Trouble::Words(fault, Name::new())),
-    }
+    wish.end().map_err(|fault| Trouble::Words(fault, None))?;
+    Ok(Some(Request {
+        way: wish.way,
+        numbers: wish.numbers,
+        list,
+        sheet,
+    }))
 }

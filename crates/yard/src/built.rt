@@ -2,7 +2,8 @@
 use build::Refusal;
 use telling::trouble::Matter;
 
-// 1, 2, 6 and 8 cannot be met here: the kind is known, the ends are read in order, and the tables are ample.
+// 1, 2, 6 and 8 cannot be met here: the kind is known, the ends are read in order, and the tables are ample. No `From`: both types are of other crates,
+// and neither of these knows the other.
 pub(crate) fn matter_of(why: Refusal) -> Matter {
     match why {
         Refusal::BadKind => Matter::Unfit("refusal 1: the kind is unknown"),

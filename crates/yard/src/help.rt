@@ -13,9 +13,8 @@ const REFUSALS: &str =
 pub(crate) fn print_help(rt: &HostRuntime) -> Result<(), Trouble<'static>> {
     let out = rt.stdout();
     for part in [USAGE, FORMATS, REFUSALS] {
-        if let Err(why) = out.write_all(part.as_bytes()) {
-            return Err(Trouble::Unwritten(why));
-        }
+        out.write_all(part.as_bytes())
+            .map_err(|why| Trouble::Unwritten(why))?;
     }
     Ok(())
 }

@@ -8,12 +8,13 @@ mod files;
 mod help;
 mod work;
 
-use ask::{Asked, ask};
+use ask::ask;
 use help::print_help;
 use std::io;
 use telling::trouble::Trouble;
 use work::run;
 
+// By `match`: an `or_else` would take a closure that prints, and the check doesn't prove such a one by itself.
 fn told(rt: &HostRuntime, done: Result<(), Trouble<'_>>) -> io::Result<()> {
     match done {
         Ok(()) => Ok(()),
@@ -23,8 +24,8 @@ fn told(rt: &HostRuntime, done: Result<(), Trouble<'_>>) -> io::Result<()> {
 
 fn main(rt: HostRuntime) -> io::Result<()> {
     match ask(&rt) {
-        Ok(Asked::Help) => told(&rt, print_help(&rt)),
-        Ok(Asked::Work(request)) => told(&rt, run(&rt, &request)),
+        Ok(None) => told(&rt, print_help(&rt)),
+        Ok(Some(request)) => told(&rt, run(&rt, &request)),
         Err(trouble) => trouble.tell(&rt),
     }
 }

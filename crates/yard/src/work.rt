@@ -2,7 +2,7 @@
 use crate::ask::Request;
 use crate::built::matter_of;
 use crate::files::read_file;
-use desk::codes::{Codes, Fault, read_codes};
+use desk::codes::{Codes, read_codes};
 use desk::words::Way;
 use list::limits::{MOST_BYTES, MOST_CELLS, MOST_LISTED, MOST_TEXT};
 use list::{Kind, List};
@@ -36,17 +36,7 @@ fn kind_of(way: Way) -> Kind {
     }
 }
 
-fn matter_of_list(fault: Fault) -> Matter {
-    match fault {
-        Fault::BadValue(line) => Matter::UnfitLine(
-            line,
-            "the value before the TAB is not a number from 0 to 4294967295",
-        ),
-        Fault::TooMany => Matter::UnfitLine(LISTED, "refusal 3: more than 1024 lines"),
-    }
-}
-
-// What a search of this sort says of the sheet, by tables that are built of the codes.
+// What the asked search says of the sheet, by tables that are built of the codes.
 fn build_and_tell<'a, 's>(
     rt: &HostRuntime,
     request: &'a Request,
@@ -64,6 +54,7 @@ fn build_and_tell<'a, 's>(
     let mut depth: [Depth; CELLS] = [0; CELLS];
     let mut outs = [[0u32; 3]; OUTPUTS];
     let list = List {
+        // The variants of `Kind` stand in the order of the numbers that `List` has for them.
         kind: kind_of(request.way) as u32,
         bytes: codes.bytes,
         ends: codes.ends,
@@ -98,7 +89,7 @@ fn build_and_tell<'a, 's>(
         codes,
         tables,
     };
-    tell_all(rt, request.way, request.numbers, name, job).map_err(|why| why.about(name))
+    tell_all(rt, request.way, request.numbers, name, job)
 }
 
 pub(crate) fn run<'a>(rt: &HostRuntime, request: &'a Request) -> Result<(), Trouble<'a>> {
@@ -120,8 +111,14 @@ pub(crate) fn run<'a>(rt: &HostRuntime, request: &'a Request) -> Result<(), Trou
     let mut ends = [0u32; LISTED];
     let mut values = [0u32; LISTED];
     let mut marks = [0u8; LISTED];
-    let codes = read_codes(list, &mut bytes, &mut ends, &mut values, &mut marks).map_err(
-        |fault| Trouble::File(list_name, matter_of_list(fault)),
+    let read = read_codes(list, &mut bytes, &mut ends, &mut values, &mut marks).map_err(
+        |fault| Trouble::File(list_name, Matter::from(fault)),
     )?;
+    let codes = Codes {
+        bytes: &bytes[..read.end],
+        ends: &ends[..read.rows],
+        values: &values[..read.rows],
+        marks: &marks[..read.rows],
+    };
     build_and_tell(rt, request, codes, sheet)
 }

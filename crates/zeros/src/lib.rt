@@ -4,7 +4,8 @@
 ghost use Rattle.std.specs.Prelude.{◌≡◌, length, replicate};
 ghost use Rattle.zeros.specs.Rows.{zeros};
 
-// What a slot of a table may hold: a value that has a zero.
+// What a slot of a table may hold: a value that has a zero. std's `Default` doesn't serve: it says which values `default` may answer, and
+// names none that a contract can cite.
 pub trait Zero: Copy {
     ghost zero: { Self };
 
@@ -37,10 +38,11 @@ impl<const N: usize> Zero for [u32; N] {
     }
 }
 
+// std's `fill` asks that a clone can't fail, which no bound says, so the slots are written here.
 pub fn zero_all<T: Zero>(slots: &mut [T])
     ensures { slots.new ≡ replicate (length slots.old) T.zero }
 {
     for slot in slots.iter_mut() {
-        *slot = T::zero(); // no slot is passed over
+        *slot = T::zero();
     }
 }

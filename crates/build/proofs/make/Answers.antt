@@ -49,11 +49,11 @@ done_long c =
 pub returns-then-is_err : goal.returns-then-is_err
 returns-then-is_err c =
     let at = (goal.at.returns-then-is_err c).After-wipe_working in
-    promise_refused c.requires.sound (blanked_long at) (done_long at) c.wipe_working.ensures
+    promise_refused c.args.sound.sound (blanked_long at) (done_long at) c.wipe_working.ensures
     c.wipe_results-then-is_err.ensures c.phases-made.result c.phases-made.ensures (sym c.is_err.ensures.value ∙ c.if-is_err.true)
 
 pub returns-else-is_err : goal.returns-else-is_err
 returns-else-is_err c =
     let at = (goal.at.returns-else-is_err c).After-wipe_working in
-    promise_good c.requires.sound (blanked_long at) (done_long at) c.wipe_working.ensures
+    promise_good c.args.sound.sound (blanked_long at) (done_long at) c.wipe_working.ensures
     c.phases-made.result c.phases-made.ensures (sym c.is_err.ensures.value ∙ c.if-is_err.false)

@@ -14,9 +14,10 @@ use Rattle.trie.specs.Children.{Begun}
 use Rattle.links.specs.Notes.{notes_of}
 use Rattle.links.specs.Linked.{Leads, ordered}
 use Rattle.links.proofs.Queue.{Linking}
+use Rattle.links.proofs.Tops.{answer_some, answer_none, some_is_child}
 use Rattle.links.proofs.Walking.{HuntIn, Setting, opened, closed, chained, in_trie, in_notes, room_left, label_small, more, child_link, at_dead, at_child, at_root_lem, onward, chain_inside, setting_hunt}
 use Rattle.links.proofs.link_children.Goals as goal
-use Rattle.links.proofs.link_children.Goals.{then-f-eq1, else-f-eq1+then-g-ne0, else-f-eq1+else-g-ne0+then-f-eq0, After-note_child-arg-1, After-label-byte, After-into_iter-t-iterator, At-loop-f, At-loop-t}
+use Rattle.links.proofs.link_children.Goals.{then-f-eq1, else-f-eq1+in-Some-child, else-f-eq1+in_default+then-f-eq0, After-note_child-arg-1, After-label-byte, After-into_iter-t-iterator, At-loop-f, At-loop-t}
 
 -- the walk begins at the state's first child
 from : (c : goal.After-into_iter-t-iterator) → Begun c.args.trie.now c.args.s.0 c.into_iter-t-iterator.result
@@ -60,13 +61,13 @@ hunted c kind es s h G =
     let A = c.loop-t.invariant.4 kind es s h G in
     c.loop-f.invariant kind es _ G.poised.turn.ready _ _ (rw (c.label-byte.ensures, c.in-Some.ensures.steps.1.1) (label_small G.poised A.1 c.in-Some.ensures.steps.1.0)) G.tops_are (chained G.poised A.1) (setting_hunt G _)
 
-pub child-g-requires : goal.child-g-requires
-child-g-requires c =
+pub child-requires : goal.child-requires
+child-requires c =
     let p = c.requires in
-    let R = (given (goal.at.child-g-requires c).At-loop-t).poised.turn.ready in
-    let H = hunted (goal.at.child-g-requires c).At-loop-f p.kind p.es _ p.at (given (goal.at.child-g-requires c).At-loop-t) in (
+    let R = (given (goal.at.child-requires c).At-loop-t).poised.turn.ready in
+    let H = hunted (goal.at.child-requires c).At-loop-f p.kind p.es _ p.at (given (goal.at.child-requires c).At-loop-t) in (
       record { names = names alphabet p.es; trie = R.trie; room = R.trie_room; inside = chain_inside R H c.if-f-eq1.false },
-      rw (c.label-byte.ensures, c.in-Some.ensures.steps.1.1) (label_small (given (goal.at.child-g-requires c).At-loop-t).poised (stands (goal.at.child-g-requires c).At-loop-t).1 c.in-Some.ensures.steps.1.0),
+      rw (c.label-byte.ensures, c.in-Some.ensures.steps.1.1) (label_small (given (goal.at.child-requires c).At-loop-t).poised (stands (goal.at.child-requires c).At-loop-t).1 c.in-Some.ensures.steps.1.0),
     )
 
 pub link_of-f-requires : goal.link_of-f-requires
@@ -82,14 +83,14 @@ loop-f-smaller c =
     let H = hunted (goal.at.loop-f-smaller c).At-loop-f p.kind p.es _ p.at (given (goal.at.loop-f-smaller c).At-loop-t) in
     let nd = c.if-f-eq1.false in
     (onward R H nd (rw (c.label-byte.ensures, c.in-Some.ensures.steps.1.1) (label_small (given (goal.at.loop-f-smaller c).At-loop-t).poised (stands (goal.at.loop-f-smaller c).At-loop-t).1 c.in-Some.ensures.steps.1.0)) _
-    (c.child-g.ensures _ R.trie (given (goal.at.loop-f-smaller c).At-loop-t).tops_are (chain_inside R H nd)) (notes_of c.loop-t.notes) _ c.if-g-ne0.false c.if-f-eq0.false
+    (answer_none c.in_default.is (c.child.ensures _ R.trie (given (goal.at.loop-f-smaller c).At-loop-t).tops_are (chain_inside R H nd))) (notes_of c.loop-t.notes) _ refl c.if-f-eq0.false
     (chained (given (goal.at.loop-f-smaller c).At-loop-t).poised (stands (goal.at.loop-f-smaller c).At-loop-t).1) c.link_of-f.ensures).1
 
 pub loop-f-preserved : goal.loop-f-preserved
 loop-f-preserved c = λ kind es room R n from small T C H₀.
     let H = c.loop-f.invariant kind es room R n from small T C H₀ in
     let nd = c.if-f-eq1.false in
-    (onward R H nd small _ (c.child-g.ensures _ R.trie T (chain_inside R H nd)) (notes_of c.loop-t.notes) _ c.if-g-ne0.false c.if-f-eq0.false
+    (onward R H nd small _ (answer_none c.in_default.is (c.child.ensures _ R.trie T (chain_inside R H nd))) (notes_of c.loop-t.notes) _ refl c.if-f-eq0.false
     C c.link_of-f.ensures).0
 
 -- where the hunt has ended
@@ -103,10 +104,11 @@ linked c kind es s h G H =
     let small : c.label-byte.result < alphabet = rw (c.label-byte.ensures, c.in-Some.ensures.steps.1.1) (label_small G.poised (c.loop-t.invariant.4 kind es s h G).1 c.in-Some.ensures.steps.1.0) in
     elim c.if-f-eq1.branch [
       | then-f-eq1 w ↦ rw w.link-is (at_dead R H w.if-f-eq1.true)
-      | else-f-eq1+then-g-ne0 w ↦ rw w.link-is
-          (at_child R H w.if-f-eq1.false small _ (w.child-g.ensures _ R.trie G.tops_are (chain_inside R H w.if-f-eq1.false)) w.if-g-ne0.true)
-      | else-f-eq1+else-g-ne0+then-f-eq0 w ↦ rw w.link-is
-          (at_root_lem R H w.if-f-eq1.false small _ (w.child-g.ensures _ R.trie G.tops_are (chain_inside R H w.if-f-eq1.false)) w.if-g-ne0.false w.if-f-eq0.true)
+      | else-f-eq1+in-Some-child w ↦ rw w.link-is
+          (at_child R H w.if-f-eq1.false small _ (answer_some w.in-Some-child.is (w.child.ensures _ R.trie G.tops_are (chain_inside R H w.if-f-eq1.false)))
+          (some_is_child _ _ _ w.in-Some-child.is (w.child.ensures _ R.trie G.tops_are (chain_inside R H w.if-f-eq1.false))))
+      | else-f-eq1+in_default+then-f-eq0 w ↦ rw w.link-is
+          (at_root_lem R H w.if-f-eq1.false small _ (answer_none w.in_default.is (w.child.ensures _ R.trie G.tops_are (chain_inside R H w.if-f-eq1.false))) refl w.if-f-eq0.true)
     ]
 
 pub note_child-requires : goal.note_child-requires

@@ -25,37 +25,37 @@ slots_under : (c : goal.After-count-slots) → c.count-slots.result ≤ smaller 
 slots_under c = omega (arith, slots_are c, smaller_left (smaller (length c.args.trie.now) (length c.args.notes.now)) 4294967295)
 
 -- what is asked of the kind is asked of the list's
-dropped : (c : goal.After-drops) → c.drops.result ≡ drops_of (kind_of c.args.list.kind)
-dropped c = c.drops.ensures ∙ ap drops_of c.requires.named
+dropped : (c : goal.After-drops) → c.drops.result ≡ drops_of (kind_of c.args.sound.list.kind)
+dropped c = c.drops.ensures ∙ ap drops_of c.args.sound.named
 
-stopped : (c : goal.After-leftmost) → c.leftmost.result ≡ is_leftmost (kind_of c.args.list.kind)
-stopped c = c.leftmost.ensures ∙ ap is_leftmost c.requires.named
+stopped : (c : goal.After-leftmost) → c.leftmost.result ≡ is_leftmost (kind_of c.args.sound.list.kind)
+stopped c = c.leftmost.ensures ∙ ap is_leftmost c.args.sound.named
 
 pub returns-in_err-grown-clause-grown : goal.returns-in_err-grown-clause-grown
 returns-in_err-grown-clause-grown c =
     let at = goal.at.returns-in_err-grown-clause-grown c in
-    grown_full _ _ _ _ _ _ _ _ c.from_residual.ensures.0 (full c.requires.sound _ (dropped at.After-drops) (slots_are at.After-count-slots) c.in_err-grown.ensures.grown)
+    grown_full _ _ _ _ _ _ _ _ c.from_residual.ensures.0 (full c.args.sound.sound _ (dropped at.After-drops) (slots_are at.After-count-slots) c.in_err-grown.ensures.grown)
 
 -- the trie of the accepted patterns stands within the slots
 stands :
     (c : goal.After-leftmost)
-    → Made (slots_of c.add_all.new.trie) (owns_of c.add_all.new.owns) c.in_ok-grown.grown.states c.in_ok-grown.grown.accepted (length c.args.owns.now) (accepted_of c.args.list.kind c.args.list.bytes.now c.args.list.ends.now)
-stands c = made c.requires.sound (dropped (goal.at.After-leftmost c).After-drops) c.in_ok-grown.ensures.grown.0
+    → Made (slots_of c.add_all.new.trie) (owns_of c.add_all.new.owns) c.in_ok-grown.grown.states c.in_ok-grown.grown.accepted (length c.args.owns.now) (accepted_of c.args.sound.list.kind c.args.sound.list.bytes.now c.args.sound.list.ends.now)
+stands c = made c.args.sound.sound (dropped (goal.at.After-leftmost c).After-drops) c.in_ok-grown.ensures.grown.0
 
 -- so the links can be made
 linkable : (c : goal.After-leftmost)
-    → Ready (kind_of c.args.list.kind) (accepted_of c.args.list.kind c.args.list.bytes.now c.args.list.ends.now) c.add_all.new.trie (length c.args.notes.now)
+    → Ready (kind_of c.args.sound.list.kind) (accepted_of c.args.sound.list.kind c.args.sound.list.bytes.now c.args.sound.list.ends.now) c.add_all.new.trie (length c.args.notes.now)
 linkable c =
     let a = length c.args.trie.now in
     let d = length c.args.notes.now in
     let under = slots_under (goal.at.After-leftmost c).After-count-slots in
-    ready c.requires.sound c.add_all.ensures.letters (stands c)
+    ready c.args.sound.sound c.add_all.ensures.letters (stands c)
     (omega (arith, c.in_ok-grown.ensures.grown.1, under, smaller_left a d, c.add_all.auto.trie)) (omega (arith, c.in_ok-grown.ensures.grown.1, under, smaller_right a d))
 
 pub link_all-requires : goal.link_all-requires
 link_all-requires c =
     let after = (goal.at.link_all-requires c).After-leftmost in
-    record { kind = kind_of c.args.list.kind; es = accepted_of c.args.list.kind c.args.list.bytes.now c.args.list.ends.now; ready = linkable after; mode = stopped after }
+    record { kind = kind_of c.args.sound.list.kind; es = accepted_of c.args.sound.list.kind c.args.sound.list.bytes.now c.args.sound.list.ends.now; ready = linkable after; mode = stopped after }
 
 pub returns-clause-grown : goal.returns-clause-grown
 returns-clause-grown c =

@@ -59,9 +59,9 @@ store_state-stored-requires-clause-stackable c =
     let at = goal.at.store_state-stored-requires-clause-stackable c in
     rw (c.state_at-s.ensures, c.loop-i.invariant.1) (stackable (known at.At-loop-i) (so_far at.At-loop-i) (in_order at.In-loop-i))
 
-pub store_state-stored-requires-clause-s_in_bounds : goal.store_state-stored-requires-clause-s_in_bounds
-store_state-stored-requires-clause-s_in_bounds c =
-    let at = goal.at.store_state-stored-requires-clause-s_in_bounds c in
+pub store_state-stored-requires-clause-state_there : goal.store_state-stored-requires-clause-state_there
+store_state-stored-requires-clause-state_there c =
+    let at = goal.at.store_state-stored-requires-clause-state_there c in
     let T = known at.At-loop-i in
     let Q = so_far at.At-loop-i in
     let h = in_order at.In-loop-i in

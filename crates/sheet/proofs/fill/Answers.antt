@@ -1,8 +1,10 @@
 -- The loop keeps `Filling`: what is written and what is still to come are the whole load.
 use mathlib.Core.Path.{refl, sym, ap, ◌∙◌}
+use mathlib.Core.List.{[]}
 use native.Mathlib.Omega.{arith}
 use borrow.Author.Rules.{rules}
 use lib.ListN.{set}
+use lib.Seq.{set-get_or}
 use Rattle.table.specs.Agrees.{lent}
 use Rattle.search.specs.Values.{answer}
 use Rattle.search.specs.Searches.{next_of}
@@ -33,7 +35,7 @@ returns-in-End g c =
     let C = at_end_lem (next_of g.S.Searching.which (lent a.tables.now) a.tables.now.counts.kind a.text.now) _ _ _ _ _ c.loop-count.invariant c.loop-count-test.true _
     (sym c.next.ensures ∙ ap answer c.in-End.is) in
     let both = told_loaded g.S.Searching.which (lent a.tables.now) a.tables.now.counts.kind a.text.now a.value a.sheet.now _ _ _ _ C (omega (arith, c.loop-count-test)) _ refl refl refl in
-    record { tells = both.0; sheet_after = both.1 }
+    record { tells = both.0; sheet_after = set-get_or c.loop-count.sheet c.loop-count.count [] ∙ both.1 }
 
 pub returns-in-Refused : goal.returns-in-Refused
 returns-in-Refused g c =
@@ -41,7 +43,7 @@ returns-in-Refused g c =
     let C = at_refusal (next_of g.S.Searching.which (lent a.tables.now) a.tables.now.counts.kind a.text.now) _ _ _ _ _ c.loop-count.invariant c.loop-count-test.true _ _
     (sym c.next.ensures ∙ ap answer c.in-Refused.is) in
     let both = told_loaded g.S.Searching.which (lent a.tables.now) a.tables.now.counts.kind a.text.now a.value a.sheet.now _ _ _ _ C (omega (arith, c.loop-count-test)) _ refl refl refl in
-    record { tells = both.0; sheet_after = both.1 }
+    record { tells = both.0; sheet_after = set-get_or c.loop-count.sheet c.loop-count.count [] ∙ both.1 }
 
 pub returns : goal.returns
 returns g c =

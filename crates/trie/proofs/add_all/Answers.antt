@@ -64,13 +64,13 @@ add_one-requires-clause-made_some c =
     let A = looked (goal.at.add_one-requires-clause-made_some c).At-loop-i in
     record { es = A.es; made = A.made; room = omega (arith, c.loop-i.invariant.3, c.requires.1, rows_lent (goal.at.add_one-requires-clause-made_some c).At-loop-i) }
 
-pub add_one-requires-clause-states_le_slots : goal.add_one-requires-clause-states_le_slots
-add_one-requires-clause-states_le_slots c =
-    let A = looked (goal.at.add_one-requires-clause-states_le_slots c).At-loop-i in (
+pub add_one-requires-clause-room : goal.add_one-requires-clause-room
+add_one-requires-clause-room c =
+    let A = looked (goal.at.add_one-requires-clause-room c).At-loop-i in (
       c.loop-i.invariant.3,
-      omega (arith, c.requires.1, rows_lent (goal.at.add_one-requires-clause-states_le_slots c).At-loop-i),
+      omega (arith, c.requires.1, rows_lent (goal.at.add_one-requires-clause-room c).At-loop-i),
       omega (arith, A.few, c.loop-i-test.true, c.requires.0.few),
-      rw (part (goal.at.add_one-requires-clause-states_le_slots c).After-pattern_end) (c.requires.0.short c.loop-i.i c.loop-i-test.true),
+      rw (part (goal.at.add_one-requires-clause-room c).After-pattern_end) (c.requires.0.short c.loop-i.i c.loop-i-test.true),
     )
 
 pub returns-in_err-grown-clause-grown : goal.returns-in_err-grown-clause-grown

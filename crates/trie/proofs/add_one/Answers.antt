@@ -14,7 +14,7 @@ pub returns-then-dropped : goal.returns-then-dropped
 returns-then-dropped c = λ es A.
     let e : (c.args.drops && barred es c.args.part.now) ≡ true
     = sym (c.dropped.ensures (names alphabet es) es A.trie A.owned (names_cover alphabet es)) ∙ c.if-dropped.true in
-    rw e (A, c.requires.states_le_slots.0)
+    rw e (A, c.requires.room.0)
 
 pub returns-in_err-added : goal.returns-in_err-added
 returns-in_err-added c = λ es A.
@@ -31,6 +31,6 @@ returns c = λ es A.
     let G = c.in_ok-added.ensures (names alphabet es) A.trie A.states_are in
     rw (e, c.give.ensures.trie_after, c.give.ensures.owns_after) (
       made_more c.args.trie.now c.args.owns.now c.add.new.trie es c.args.grown.states c.args.grown.accepted _ _ c.args.row c.args.part.now A G.0
-          (omega (arith, G.1, c.requires.states_le_slots, c.add.auto.trie)),
+          (omega (arith, G.1, c.requires.room, c.add.auto.trie)),
       G.1,
     )

@@ -22,7 +22,7 @@ cells_under c = lying (cell_slots (length c.args.spots.now) (length c.args.base.
 
 -- the trie with its links
 grown_here : (c : goal.After-cell_slots)
-    → Grown c.args.list.kind c.args.list.bytes.now c.args.list.ends.now (smaller (length c.args.trie.now) (length c.args.notes.now))
+    → Grown c.args.sound.list.kind c.args.sound.list.bytes.now c.args.sound.list.ends.now (smaller (length c.args.trie.now) (length c.args.notes.now))
     c.grow.new.trie c.grow.new.owns c.grow.new.notes c.in_ok-grown.grown.states c.in_ok-grown.grown.accepted
 grown_here c = c.in_ok-grown.ensures.grown
 
@@ -31,15 +31,15 @@ most_is : (c : goal.After-most_blocks-most) → c.most_blocks-most.result ≡ bl
 most_is c = c.most_blocks-most.ensures ∙ ap blocks_in c.cell_slots.ensures
 
 layable_here : (c : goal.After-most_blocks-most)
-    → Grown c.args.list.kind c.args.list.bytes.now c.args.list.ends.now (smaller (length c.args.trie.now) (length c.args.notes.now)) c.grow.new.trie c.grow.new.owns c.grow.new.notes c.in_ok-grown.grown.states c.in_ok-grown.grown.accepted
+    → Grown c.args.sound.list.kind c.args.sound.list.bytes.now c.args.sound.list.ends.now (smaller (length c.args.trie.now) (length c.args.notes.now)) c.grow.new.trie c.grow.new.owns c.grow.new.notes c.in_ok-grown.grown.states c.in_ok-grown.grown.accepted
     → Lying (cell_slots (length c.args.spots.now) (length c.args.base.now) (length c.args.link.now) (length c.args.output.now) (length c.args.check.now) (length c.args.depth.now)) (length c.args.spots.now) (length c.args.base.now) (length c.args.link.now) (length c.args.output.now) (length c.args.check.now) (length c.args.depth.now)
-    → Layable (accepted_of c.args.list.kind c.args.list.bytes.now c.args.list.ends.now) c.grow.new.trie (length c.grow.new.notes) c.args.spots.now c.most_blocks-most.result
-layable_here c g U = layable c.requires.prepared.sound g _ (cell_slots (length c.args.spots.now) (length c.args.base.now) (length c.args.link.now) (length c.args.output.now) (length c.args.check.now) (length c.args.depth.now)) _ c.requires.prepared.spots_blank (most_is c) U.in_spots
+    → Layable (accepted_of c.args.sound.list.kind c.args.sound.list.bytes.now c.args.sound.list.ends.now) c.grow.new.trie (length c.grow.new.notes) c.args.spots.now c.most_blocks-most.result
+layable_here c g U = layable c.args.sound.sound g _ (cell_slots (length c.args.spots.now) (length c.args.base.now) (length c.args.link.now) (length c.args.output.now) (length c.args.check.now) (length c.args.depth.now)) _ c.requires.spots_blank (most_is c) U.in_spots
 
 laid_here : (c : goal.After-min)
-    → Layable (accepted_of c.args.list.kind c.args.list.bytes.now c.args.list.ends.now) c.grow.new.trie (length c.grow.new.notes) c.args.spots.now c.most_blocks-most.result
-    → LaidDown (accepted_of c.args.list.kind c.args.list.bytes.now c.args.list.ends.now) c.grow.new.notes c.lay_out.new.notes c.lay_out.new.spots c.most_blocks-most.result c.in_ok-blocks.blocks
-laid_here c L = c.in_ok-blocks.ensures (accepted_of c.args.list.kind c.args.list.bytes.now c.args.list.ends.now) L
+    → Layable (accepted_of c.args.sound.list.kind c.args.sound.list.bytes.now c.args.sound.list.ends.now) c.grow.new.trie (length c.grow.new.notes) c.args.spots.now c.most_blocks-most.result
+    → LaidDown (accepted_of c.args.sound.list.kind c.args.sound.list.bytes.now c.args.sound.list.ends.now) c.grow.new.notes c.lay_out.new.notes c.lay_out.new.spots c.most_blocks-most.result c.in_ok-blocks.blocks
+laid_here c L = c.in_ok-blocks.ensures (accepted_of c.args.sound.list.kind c.args.sound.list.bytes.now c.args.sound.list.ends.now) L
 
 -- the output slots
 outputs_are : (c : goal.After-min) → c.min.result ≡ smaller (length c.args.owns.now) (length c.args.outs.now)
@@ -59,8 +59,8 @@ returns-in_err-blocks c =
     rw (p.1, p.2) (
       7,
       refl,
-      seven c.requires.prepared.sound g _ _ refl (most_is (goal.at.returns-in_err-blocks c).After-most_blocks-most)
-          (c.in_err-blocks.ensures (accepted_of c.args.list.kind c.args.list.bytes.now c.args.list.ends.now) L),
+      seven c.args.sound.sound g _ _ refl (most_is (goal.at.returns-in_err-blocks c).After-most_blocks-most)
+          (c.in_err-blocks.ensures (accepted_of c.args.sound.list.kind c.args.sound.list.bytes.now c.args.sound.list.ends.now) L),
     )
 
 pub returns-then-min-grown : goal.returns-then-min-grown
@@ -69,7 +69,7 @@ returns-then-min-grown c =
     let U = cells_under (goal.at.returns-then-min-grown c).After-cell_slots in
     let L = layable_here (goal.at.returns-then-min-grown c).After-most_blocks-most g U in
     let D = laid_here (goal.at.returns-then-min-grown c).After-min L in
-    (8, refl, eight c.requires.prepared.sound g D _ refl (most_is (goal.at.returns-then-min-grown c).After-most_blocks-most) (omega (arith, outputs_are (goal.at.returns-then-min-grown c).After-min, c.if-min-grown.true)))
+    (8, refl, eight c.args.sound.sound g D _ refl (most_is (goal.at.returns-then-min-grown c).After-most_blocks-most) (omega (arith, outputs_are (goal.at.returns-then-min-grown c).After-min, c.if-min-grown.true)))
 
 pub fill-accepted-requires : goal.fill-accepted-requires
 fill-accepted-requires c =
@@ -83,12 +83,12 @@ fill-accepted-requires c =
     let o = outputs_are (goal.at.fill-accepted-requires c).After-min in
     let S = slots_of (lot_of a.trie.now a.owns.now a.notes.now a.spots.now a.base.now a.link.now a.output.now a.check.now a.depth.now a.outs.now) in
     record {
-      kind = kind_of a.list.kind;
-      es = (accepted_of c.args.list.kind c.args.list.bytes.now c.args.list.ends.now);
-      fillable = fillable c.requires.prepared.sound g D S refl (most_is (goal.at.fill-accepted-requires c).After-most_blocks-most)
+      kind = kind_of a.sound.list.kind;
+      es = (accepted_of c.args.sound.list.kind c.args.sound.list.bytes.now c.args.sound.list.ends.now);
+      fillable = fillable c.args.sound.sound g D S refl (most_is (goal.at.fill-accepted-requires c).After-most_blocks-most)
           c.grow.ensures.letters c.lay_out.auto.notes (omega (arith, U.in_spots, c.lay_out.auto.spots))
           U.columns.in_base U.columns.in_link U.columns.in_output U.columns.in_check U.columns.in_depth
-          c.requires.prepared.base_blank c.requires.prepared.link_blank c.requires.prepared.output_blank c.requires.prepared.check_blank c.requires.prepared.depth_blank c.requires.prepared.outs_blank
+          c.requires.base_blank c.requires.link_blank c.requires.output_blank c.requires.check_blank c.requires.depth_blank c.requires.outs_blank
           (omega (arith, o, c.if-min-grown.false, smaller_left x y, c.grow.auto.owns)) (omega (arith, o, c.if-min-grown.false, smaller_right x y));
     }
 
@@ -103,13 +103,13 @@ returns c =
     let y = length a.outs.now in
     let o = outputs_are (goal.at.returns c).After-min in
     let S = slots_of (lot_of a.trie.now a.owns.now a.notes.now a.spots.now a.base.now a.link.now a.output.now a.check.now a.depth.now a.outs.now) in
-    let F = c.fill-accepted.ensures _ _ (fillable c.requires.prepared.sound g D S refl (most_is (goal.at.returns c).After-most_blocks-most)
+    let F = c.fill-accepted.ensures _ _ (fillable c.args.sound.sound g D S refl (most_is (goal.at.returns c).After-most_blocks-most)
     c.grow.ensures.letters c.lay_out.auto.notes (omega (arith, U.in_spots, c.lay_out.auto.spots))
     U.columns.in_base U.columns.in_link U.columns.in_output U.columns.in_check U.columns.in_depth
-    c.requires.prepared.base_blank c.requires.prepared.link_blank c.requires.prepared.output_blank c.requires.prepared.check_blank c.requires.prepared.depth_blank c.requires.prepared.outs_blank
+    c.requires.base_blank c.requires.link_blank c.requires.output_blank c.requires.check_blank c.requires.depth_blank c.requires.outs_blank
     (omega (arith, o, c.if-min-grown.false, smaller_left x y, c.grow.auto.owns)) (omega (arith, o, c.if-min-grown.false, smaller_right x y))) in
     record {
-      fits = fits c.requires.prepared.sound g D S refl (most_is (goal.at.returns c).After-most_blocks-most) (omega (arith, o, c.if-min-grown.false));
+      fits = fits c.args.sound.sound g D S refl (most_is (goal.at.returns c).After-most_blocks-most) (omega (arith, o, c.if-min-grown.false));
       counts_are = counts_here _ F.count_is g.made.states_are D.blocks_are;
       filled = record { count_is = F.count_is; columns = F.columns; rows = F.rows };
     }

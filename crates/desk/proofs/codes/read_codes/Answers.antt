@@ -1,10 +1,9 @@
 -- `desk::codes::read_codes` says what `codes` says.
-use mathlib.Core.Path.{◌≡◌, refl, sym, ap, ◌∙◌}
+use mathlib.Core.Path.{◌≡◌, refl, ap, ◌∙◌}
 use mathlib.Core.List.{List, ◌++◌}
 use Prim.Native.Nat.{ℕ, ◌≤◌, ◌+◌, ◌-◌}
 use native.Mathlib.Omega.{arith}
 use lib.ListN.{length, take, length-set}
-use lib.Seq.{length-take-le}
 use Rattle.std.proofs.Common.{rules}
 use Rattle.std.proofs.lemmas.Slice.{take-put_mid}
 use Rattle.desk.specs.Rows.{row_of}
@@ -18,16 +17,16 @@ loop-line-init c =
     ap (λ (x : Lines). x.rest.now) c.into_iter-line-iterator.ensures.into_iter_gives ∙ c.of-line-items.ensures in
     rw e (tt, tt, begun (length c.args.ends.now) c.args.file.now c.args.bytes.now c.args.ends.now c.args.values.now c.args.marks.now, omega arith, refl, refl, refl, refl)
 
-pub returns-then-ends-rows : goal.returns-then-ends-rows
-returns-then-ends-rows c =
+pub returns-then-ends-rows-clause-says : goal.returns-then-ends-rows-clause-says
+returns-then-ends-rows-clause-says c =
     let turn = c.loop-line in
     full _ _ _ _ _ _ _ _ _ turn.invariant.2 _ _ c.in-Some.ensures.steps (omega (arith, turn.invariant.5))
 
-pub returns-in_default : goal.returns-in_default
-returns-in_default c =
+pub returns-in_default-clause-says : goal.returns-in_default-clause-says
+returns-in_default-clause-says c =
     let turn = c.loop-line in
     bad_line _ _ _ _ _ _ _ _ _ turn.invariant.2 _ _ c.in-Some.ensures.steps (omega (arith, turn.invariant.5)) c.row_of.result
-    (c.row_of.ensures.result_value ∙ ap (row_of turn.rows) c.bare.ensures) c.in_default.is
+    (c.row_of.ensures.row ∙ ap (row_of turn.rows) c.bare.ensures) c.in_default.is
 
 pub loop-line-preserved : goal.loop-line-preserved
 loop-line-preserved c =
@@ -44,7 +43,7 @@ loop-line-preserved c =
       tt,
       rw c.from.ensures
           (one_more _ _ _ _ _ _ _ _ _ turn.invariant.2 _ _ c.in-Some.ensures.steps (omega (arith, turn.invariant.5)) c.row_of.result row
-          (c.row_of.ensures.result_value ∙ ap (row_of turn.rows) c.bare.ensures) c.in-Some-row_of.is short _ _ refl put
+          (c.row_of.ensures.row ∙ ap (row_of turn.rows) c.bare.ensures) c.in-Some-row_of.is short _ _ refl put
           (omega arith) (omega (arith, turn.invariant.6, turn.invariant.5, c.requires.ends_fit_values)) (omega (arith, turn.invariant.7, turn.invariant.5, c.requires.ends_fit_marks))),
       omega (arith, length-set turn.ends turn.rows (turn.end + length row.code.now)),
       search rules,
@@ -53,8 +52,9 @@ loop-line-preserved c =
       length-set turn.marks _ _ ∙ turn.invariant.7,
     )
 
-pub slice_bounds-result-end-2 : goal.slice_bounds-result-end-2
-slice_bounds-result-end-2 c = sym (length-take-le _ _ c.loop-line.invariant.3)
+pub returns-clause-says : goal.returns-clause-says
+returns-clause-says c = all_read _ _ _ _ _ _ _ _ _ c.loop-line.invariant.2 c.in-None.ensures.steps.0
 
-pub returns : goal.returns
-returns c = all_read _ _ _ _ _ _ _ _ _ c.loop-line.invariant.2 c.in-None.ensures.steps.0
+pub returns-clause-inside : goal.returns-clause-inside
+returns-clause-inside c =
+    let turn = c.loop-line in (omega (arith, turn.invariant.2.shorter, turn.invariant.4, c.requires.file_fits_bytes), turn.invariant.3)

@@ -5,7 +5,7 @@ use Rattle.std.specs.Prelude.{Option, unwrap_or}
 use Rattle.desk.proofs.Scanning.{ahead_position}
 use Rattle.desk.proofs.stretches.count_ahead.Goals as goal
 
-pub returns-clause-value : goal.returns-clause-value
-returns-clause-value c =
+pub returns-clause-ahead : goal.returns-clause-ahead
+returns-clause-ahead c =
     c.unwrap_or.ensures ∙ ap (λ (o : Option ℕ). unwrap_or o (length c.args.bytes.now)) c.position_of.ensures
     ∙ ahead_position c.args.byte c.args.bytes.now

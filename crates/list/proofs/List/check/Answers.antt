@@ -3,11 +3,12 @@ use mathlib.Core.Path.{◌≡◌, sym, ap, ◌∙◌}
 use mathlib.Core.Option.{none, some}
 use native.Mathlib.Omega.{arith}
 use Rattle.list.specs.Limits.{most_bytes}
-use Rattle.list.specs.Listed.{patterns_of, is_empty, exceeds, first_where}
+use Rattle.list.specs.Listed.{patterns_of, is_empty, exceeds, first_where, refusals}
+use Rattle.list.specs.Refusals.{lowest}
 use Rattle.list.specs.Answers.{placed}
 use Rattle.list.specs.Claims.{SoundEnds}
 use Rattle.list.proofs.Checks.{Counted, sound_ends, empty_same, long_same, index_small, gives_kind, gives_counts, gives_ends, gives_many, gives_empty, gives_long, gives_fine}
-use Rattle.list.proofs.Sound.{tells_kind}
+use Rattle.list.proofs.Sound.{tells_kind, untold_sound}
 use Rattle.list.proofs.List.check.Goals as goal
 use Rattle.list.proofs.List.check.Goals.{Else-self-gt-MOST_LISTED, In-Some, In-Some-first_sized, In_default, In_default-first_sized}
 
@@ -79,8 +80,15 @@ returns-in-Some-first_sized-clause-told c =
     let sound = ends_right past in
     gives_long _ _ _ _ (counted past) _ (empty_none (goal.at.returns-in-Some-first_sized-clause-told c).In_default sound) (long_at c sound)
 
-pub returns-clause-told : goal.returns-clause-told
-returns-clause-told c =
-    let past = (goal.at.returns-clause-told c).Else-self-gt-MOST_LISTED in
+-- past the last test nothing is told
+fine : (c : goal.In_default-first_sized) → none ≡ lowest (refusals c.args.self.kind c.args.self.bytes.now c.args.self.ends.now c.args.self.values.now)
+fine c =
+    let past = (goal.at.In_default-first_sized c).Else-self-gt-MOST_LISTED in
     let sound = ends_right past in
-    gives_fine _ _ _ _ (counted past) (empty_none (goal.at.returns-clause-told c).In_default sound) (long_none c sound)
+    gives_fine _ _ _ _ (counted past) (empty_none (goal.at.In_default-first_sized c).In_default sound) (long_none c sound)
+
+pub invariant_of-result-clause-sound : goal.invariant_of-result-clause-sound
+invariant_of-result-clause-sound c = untold_sound _ _ _ _ (sym (fine (goal.at.invariant_of-result-clause-sound c).In_default-first_sized))
+
+pub returns-clause-told : goal.returns-clause-told
+returns-clause-told c = fine (goal.at.returns-clause-told c).In_default-first_sized

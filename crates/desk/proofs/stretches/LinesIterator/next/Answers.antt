@@ -11,9 +11,9 @@ returns-then-is_empty-clause-steps c =
 
 pub returns-clause-steps : goal.returns-clause-steps
 returns-clause-steps c =
-    line_and_rest c.args.self.now.rest.now c.count_ahead-size.result c.min-next.result (sym c.if-is_empty.ensures) c.count_ahead-size.ensures.value c.min-next.ensures
+    line_and_rest c.args.self.now.rest.now c.count_ahead-size.result c.min-next.result (sym c.if-is_empty.ensures) c.count_ahead-size.ensures.ahead c.min-next.ensures
 
 pub returns-clause-goes : goal.returns-clause-goes
 returns-clause-goes c =
-    let e = line_and_rest c.args.self.now.rest.now c.count_ahead-size.result c.min-next.result (sym c.if-is_empty.ensures) c.count_ahead-size.ensures.value c.min-next.ensures in
+    let e = line_and_rest c.args.self.now.rest.now c.count_ahead-size.result c.min-next.result (sym c.if-is_empty.ensures) c.count_ahead-size.ensures.ahead c.min-next.ensures in
     record { on = λ f. (tt, f, omega (arith, ap length e)); keeps = tt; rests = λ f. tt }
