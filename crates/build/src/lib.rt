@@ -18,7 +18,7 @@ mod slots;
 use phases::phases;
 
 // Why there are no tables of a list.
-#[derive(Clone, Copy, Debug, PartialEq, Eq)]
+#[derive(Clone, Copy, PartialEq, Eq)]
 pub enum Refusal {
     // 1: the kind is above 2.
     BadKind,

@@ -39,6 +39,7 @@ one_answer =
       refused_cells = only _;
       fresh = only _;
       next = λ w T kind text v. (search.claims w T kind text v).one_answer;
+      equal = λ same. only same;
       is_other = λ w kind. only _;
       fill = λ w T kind text v sheet₀ sheet' sheet'' r r' t p t' p'. ((sheet.claims w T kind text v).one_answer (length sheet₀) r r' t t', p ∙ sym p');
       exported_build = λ kind bytes ends values entry exit exit' counts counts' r r' p q.

@@ -1,6 +1,6 @@
 -- One answer only: for each public function of the crates that users link (`table`, `build`, `search`, `sheet`, `exports`), no second answer, and no second
 -- lot of lent tables, could meet its promise. No function of theirs is excepted; inner crates are (docs/READING.md). The proofs stand in ../proofs; `one_answer` there has them all.
-use Rattle.std.specs.Prelude.{◌≡◌, List, ℕ, length, Result}
+use Rattle.std.specs.Prelude.{◌≡◌, Bool, List, ℕ, length, Result}
 use Rattle.list.specs.declared.Refusal.{Refusal as Unsound}
 use Rattle.table.specs.Slots.{column_slots}
 use Rattle.table.specs.Readers.{probe_of, link_of, place_of, output_of}
@@ -47,6 +47,8 @@ pub record OneAnswer : Type 0 where
       → answer r ≡ next_of w T kind text v
       → answer r' ≡ next_of w T kind text v
       → r ≡ r'
+  -- whether two values are equal, by the `==` of each type that has it
+  pub equal : (same : Bool) → Only same
   -- whether tables of a kind are for another search
   pub is_other : (w : Which) (kind : ℕ) → Only (other_kind (is_leftmost w) kind)
   -- a sheet: the answer, and the sheet itself

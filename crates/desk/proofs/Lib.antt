@@ -1,4 +1,5 @@
 pub mod Scanning
+pub mod Asking
 pub mod Spelling
 pub mod Rowing
 pub mod Locating

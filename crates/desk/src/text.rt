@@ -1,6 +1,6 @@
-// Bytes put together in a room of their own, as a line that is written at once, or a name. What does not fit is left out.
+// Bytes put together in a room of their own, as a line that is written at once, or a name; or in a line that is lent. What does not fit is left out.
 ghost use Rattle.std.specs.Prelude.{◌≡◌, false, [], List, ◌++◌, ℕ, take, length, ◌≤◌};
-ghost use Rattle.desk.specs.Shown.{is_control, Clean};
+ghost use Rattle.desk.specs.Shown.{is_control, Clean, CleanFrom};
 
 use std::io;
 use std::io::Write;
@@ -45,34 +45,6 @@ impl<const N: usize> Room<N> {
         &self.bytes[..self.size]
     }
 
-    fn push(&mut self, byte: u8)
-        ensures { is_control byte ≡ false → Clean self.old self.new }
-    {
-        if self.size < self.bytes.len() {
-            self.bytes[self.size] = byte;
-            self.size += 1;
-        }
-    }
-
-    fn push_escaped(&mut self, byte: u8)
-        ensures { Clean self.old self.new }
-    {
-        self.push(BACKSLASH);
-        self.push(b'x');
-        self.push(digit(byte / 16));
-        self.push(digit(byte % 16));
-    }
-
-    fn push_visible(&mut self, byte: u8)
-        ensures { Clean self.old self.new }
-    {
-        if byte.is_ascii_control() {
-            self.push_escaped(byte);
-        } else {
-            self.push(byte);
-        }
-    }
-
     // As much of the part as fits.
     pub fn put(&mut self, part: &[u8])
         ensures { self.new ≡ take N (self.old ++ part.now) }
@@ -88,9 +60,7 @@ impl<const N: usize> Room<N> {
     pub fn put_shown(&mut self, part: &[u8])
         ensures { Clean self.old self.new }
     {
-        for byte in part {
-            self.push_visible(*byte);
-        }
+        self.size = put_shown(&mut self.bytes, self.size, part);
     }
 }
 
@@ -106,7 +76,55 @@ impl<const N: usize> Write for Room<N> {
     }
 }
 
-// The digit of a number below 16. By hand, since no clause says which bytes `write!` puts, and `Clean` speaks of them.
+// A code or a file's name in a line that is lent, from the place where the line ends; it answers where the line ends then. A `Room` goes through it, so
+// that a byte is shown in one place.
+pub fn put_shown(line: &mut [u8], end: usize, part: &[u8]) -> usize
+    ensures room { end ≤ length line.old → result ≤ length line.new }
+    ensures shown { CleanFrom line.old line.new end result }
+{
+    let mut at = end;
+    for byte in part {
+        at = put_visible(line, at, *byte);
+    }
+    at
+}
+
+fn put_visible(line: &mut [u8], end: usize, byte: u8) -> usize
+    ensures room { end ≤ length line.old → result ≤ length line.new }
+    ensures shown { CleanFrom line.old line.new end result }
+{
+    if byte.is_ascii_control() {
+        put_escaped(line, end, byte)
+    } else {
+        put_byte(line, end, byte)
+    }
+}
+
+// As \xHH, by hand, as `digit` is.
+fn put_escaped(line: &mut [u8], end: usize, byte: u8) -> usize
+    ensures room { end ≤ length line.old → result ≤ length line.new }
+    ensures shown { CleanFrom line.old line.new end result }
+{
+    let first = put_byte(line, end, BACKSLASH);
+    let second = put_byte(line, first, b'x');
+    let third = put_byte(line, second, digit(byte / 16));
+    put_byte(line, third, digit(byte % 16))
+}
+
+// A place at the line's end or past it stays as it is.
+fn put_byte(line: &mut [u8], end: usize, byte: u8) -> usize
+    ensures room { end ≤ length line.old → result ≤ length line.new }
+    ensures shown { is_control byte ≡ false → CleanFrom line.old line.new end result }
+{
+    if end < line.len() {
+        line[end] = byte;
+        end + 1
+    } else {
+        end
+    }
+}
+
+// The digit of a number below 16. By hand, since no clause says which bytes `write!` puts into a room, and `Clean` speaks of them.
 fn digit(half: u8) -> u8
     ensures { is_control result ≡ false }
 {

@@ -1,6 +1,7 @@
 // The words of the command, taken one after the other.
-ghost use Rattle.std.specs.Prelude.{◌≡◌, ◌≢◌, ◌↔◌, false, IsOk};
-ghost use Rattle.desk.specs.Words.{NamesCounted};
+ghost use Rattle.std.specs.Prelude.{◌≡◌, ◌≢◌, ◌↔◌, ◌||◌, true, false, IsOk};
+ghost use Rattle.paper.specs.Lists.{same};
+ghost use Rattle.desk.specs.Words.{NamesCounted, NamesOrdered, NamesTaken, is_name, ends_options, asks_search, is_option, Goes};
 ghost use Rattle.desk.specs.declared.words.Way.TheVariants as way;
 
 // Which search is run.
@@ -54,9 +55,9 @@ pub enum Word {
 pub struct Wish {
     pub way: Way,
     pub numbers: bool,
-    names: u32,
+    pub names: u32,
     // The options are over.
-    over: bool,
+    pub over: bool,
     // The next word says the search.
     choosing: bool,
 }
@@ -65,7 +66,7 @@ impl Wish {
     // What is wanted where there are no words.
     pub fn first() -> Self
         ensures search { (result.way ≡ way.Overlapping) × (result.numbers ≡ false) }
-        ensures words { (result.names ≡ 0) × (result.choosing ≡ false) }
+        ensures words { (result.names ≡ 0) × (result.choosing ≡ false) × (result.over ≡ false) }
     {
         Wish {
             way: Way::Overlapping,
@@ -76,8 +77,13 @@ impl Wish {
         }
     }
 
+    // A word more: what it is, and what is wanted then.
     pub fn take(&mut self, word: &[u8]) -> Result<Word, Fault>
-        ensures { NamesCounted self.old.names self.new.names result }
+        ensures counted { NamesCounted self.old.names self.new.names result }
+        ensures ordered { NamesOrdered self.old.names result }
+        ensures taken { NamesTaken (is_name self.old.choosing self.old.over word.now) result }
+        ensures next { Goes (self.old.over || is_option self.old.choosing self.old.over word.now ends_options)
+            (is_option self.old.choosing self.old.over word.now asks_search) self.new.over self.new.choosing result }
     {
         if self.choosing {
             self.way = Way::named(word).ok_or(Fault::UnknownSearch)?;
@@ -90,21 +96,34 @@ impl Wish {
         self.take_option(word)
     }
 
+    // By `==`, which says of the whole word whether it is the option: the clause `next` speaks of it.
+    #[tactic(auto, using(crate::proofs::Scanning::same_pointwise))]
     fn take_option(&mut self, word: &[u8]) -> Result<Word, Fault>
-        ensures { NamesCounted self.old.names self.new.names result }
+        ensures counted { NamesCounted self.old.names self.new.names result }
+        ensures ordered { NamesOrdered self.old.names result }
+        ensures taken { NamesTaken false result }
+        ensures next { Goes (self.old.over || same word.now ends_options) (self.old.choosing || same word.now asks_search)
+            self.new.over self.new.choosing result }
     {
-        match word {
-            b"--" => self.over = true,
-            b"--search" => self.choosing = true,
-            b"--numbers" => self.numbers = true,
-            b"--help" | b"-h" => return Ok(Word::Help),
-            _ => return Err(Fault::UnknownOption),
+        if word == b"--".as_slice() {
+            self.over = true;
+        } else if word == b"--search".as_slice() {
+            self.choosing = true;
+        } else if word == b"--numbers".as_slice() {
+            self.numbers = true;
+        } else if word == b"--help".as_slice() || word == b"-h".as_slice() {
+            return Ok(Word::Help);
+        } else {
+            return Err(Fault::UnknownOption);
         }
         Ok(Word::Setting)
     }
 
     fn take_name(&mut self) -> Result<Word, Fault>
-        ensures { NamesCounted self.old.names self.new.names result }
+        ensures counted { NamesCounted self.old.names self.new.names result }
+        ensures ordered { NamesOrdered self.old.names result }
+        ensures taken { NamesTaken true result }
+        ensures next { (self.new.over ≡ self.old.over) × (self.new.choosing ≡ self.old.choosing) }
     {
         let word = match self.names {
             0 => Word::List,

@@ -10,8 +10,8 @@ use list::limits::{LAST_KIND, MOST_TEXT};
 use table::slots::column_slots;
 use table::{Counts, Tables};
 
-// Whether tables of this kind are for another search: for a standard one than the leftmost, or the other way round. The kind is asked for here alone.
-// It is a number: any may be given, and one that is of no kind is for no other search; it is damage, refusal 11.
+// Whether tables of this kind are for another search: for a standard one than the leftmost, or the other way round. Which search a kind is for is asked
+// here alone. It is a number: any may be given, and one that is of no kind is for no other search; `admit` tells it as damage, refusal 11.
 pub(crate) fn is_other(leftmost: bool, kind: u32) -> bool
     ensures { result ≡ other_kind leftmost kind }
 {

@@ -24,7 +24,7 @@ use seek::{Sought, seek};
 const ROOT: u32 = 0;
 
 // What a search has come to. Any value may be handed in.
-#[derive(Clone, Copy, Debug, PartialEq, Eq)]
+#[derive(Clone, Copy, PartialEq, Eq)]
 pub struct Search {
     pub state: CellId,
     // The place of the output that is given next, 0 for none. It is a number and no Option, since C lends it so and any number may come.
@@ -35,14 +35,14 @@ pub struct Search {
     pub moves: u64,
 }
 
-#[derive(Clone, Copy, Debug, PartialEq, Eq)]
+#[derive(Clone, Copy, PartialEq, Eq)]
 pub struct Match {
     pub start: usize,
     pub end: usize,
     pub value: u32,
 }
 
-#[derive(Clone, Copy, Debug, PartialEq, Eq)]
+#[derive(Clone, Copy, PartialEq, Eq)]
 pub enum Refusal {
     // 9: the tables are of a kind that another search is for.
     WrongKind,
@@ -53,7 +53,7 @@ pub enum Refusal {
 }
 
 // A refusal hands back the value as it came in. No Result: document 01 names the form, an enum of match, end or refusal with the next value.
-#[derive(Clone, Copy, Debug, PartialEq, Eq)]
+#[derive(Clone, Copy, PartialEq, Eq)]
 pub enum Answer {
     Match(Match, Search),
     End(Search),

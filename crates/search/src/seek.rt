@@ -10,7 +10,7 @@ use crate::walk::{shallow, step};
 use table::{Damage, Row, Tables};
 
 // What the walk comes to, with the value there. An Option would do for the output, but each way has the value too.
-#[derive(Clone, Copy, Debug, PartialEq, Eq)]
+#[derive(Clone, Copy, PartialEq, Eq)]
 pub(crate) enum Sought {
     Given(Row, Search),
     End(Search),

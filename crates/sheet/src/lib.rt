@@ -13,7 +13,7 @@ use search::{Answer, Match, Refusal, Search, Searching};
 use table::Tables;
 
 // Why a call stopped. A full sheet and the end are as good as a refusal is: each comes with records and a value, so none is an error here.
-#[derive(Clone, Copy, Debug, PartialEq, Eq)]
+#[derive(Clone, Copy, PartialEq, Eq)]
 pub enum Stop {
     // Every slot is written. No further match was looked for.
     Full,
@@ -24,7 +24,7 @@ pub enum Stop {
 }
 
 // Why a call stopped, how many records it wrote, and the value to go on with.
-#[derive(Clone, Copy, Debug, PartialEq, Eq)]
+#[derive(Clone, Copy, PartialEq, Eq)]
 pub struct Filled {
     pub stop: Stop,
     pub count: usize,

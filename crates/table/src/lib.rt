@@ -16,7 +16,7 @@ const LENGTH: usize = 1;
 const NEXT: usize = 2;
 
 // A cell's number. A trie number is another type, so that the two can't be mixed.
-#[derive(Clone, Copy, Debug, PartialEq, Eq)]
+#[derive(Clone, Copy, PartialEq, Eq)]
 pub struct CellId(pub u32);
 
 // A state's depth, stored in its cell. Its width is named here alone: no definition and no proof knows it.
@@ -24,7 +24,7 @@ pub type Depth = u8;
 
 // What a good build says of its tables, and a search is told: the kind, and how many patterns were accepted, states made and cells used. The
 // states count root and not dead. The kind is a number, since a caller may lend tables of one that no search is for.
-#[derive(Clone, Copy, Debug, PartialEq, Eq)]
+#[derive(Clone, Copy, PartialEq, Eq)]
 pub struct Counts {
     pub kind: u32,
     pub accepted: u32,
@@ -33,12 +33,12 @@ pub struct Counts {
 }
 
 // Something that is needed isn't there, or can't be right.
-#[derive(Clone, Copy, Debug, PartialEq, Eq)]
+#[derive(Clone, Copy, PartialEq, Eq)]
 pub struct Damage;
 
 // An output: the value and the length of its pattern, and the place of the next output, 0 for none. C lends the places so, and a row of any
 // numbers may be lent: `output` says of a place whether one stands there.
-#[derive(Clone, Copy, Debug, PartialEq, Eq)]
+#[derive(Clone, Copy, PartialEq, Eq)]
 pub struct Row {
     pub value: u32,
     pub length: u32,

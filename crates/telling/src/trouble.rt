@@ -1,5 +1,5 @@
 // Why the command prints no result, or not the whole of it: told in one line on standard error.
-use crate::lines::{Line, Name, write_line};
+use crate::lines::{Line, write_line};
 use desk::codes;
 use desk::words::Fault;
 use list::limits::MOST_LISTED;
@@ -97,7 +97,7 @@ impl Stopped {
 #[derive(Drop)]
 pub enum Trouble<'a> {
     // The words of the command, with the one that is not taken, if there is such a one.
-    Words(Fault, Option<Name>),
+    Words(Fault, Option<&'a [u8]>),
     // A file, by its name.
     File(&'a [u8], Matter),
     // Standard output takes no more.
@@ -126,7 +126,7 @@ impl Trouble<'_> {
 
 // The words that are not taken, and a hint. No `Display`, nor below: the word is bytes and no text, and a matter may hold a reason of the system, which
 // `put_reason` shortens in a room of its own.
-fn put_fault(line: &mut Line, fault: Fault, word: Option<Name>) -> io::Result<()> {
+fn put_fault(line: &mut Line, fault: Fault, word: Option<&[u8]>) -> io::Result<()> {
     let what = match fault {
         Fault::UnknownOption => "unknown option ",
         Fault::UnknownSearch => "unknown search ",
@@ -137,7 +137,7 @@ fn put_fault(line: &mut Line, fault: Fault, word: Option<Name>) -> io::Result<()
     };
     write!(line, "{what}")?;
     if let Some(word) = word {
-        line.put_shown(word.as_bytes());
+        line.put_shown(word);
     }
     write!(line, " (yard --help tells how to ask)")
 }

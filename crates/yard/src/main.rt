@@ -11,6 +11,7 @@ mod work;
 use ask::ask;
 use help::print_help;
 use std::io;
+use telling::lines::NAME;
 use telling::trouble::Trouble;
 use work::run;
 
@@ -23,7 +24,8 @@ fn told(rt: &HostRuntime, done: Result<(), Trouble<'_>>) -> io::Result<()> {
 }
 
 fn main(rt: HostRuntime) -> io::Result<()> {
-    match ask(&rt) {
+    let mut room = [0u8; NAME];
+    match ask(&rt, &mut room) {
         Ok(None) => told(&rt, print_help(&rt)),
         Ok(Some(request)) => told(&rt, run(&rt, &request)),
         Err(trouble) => trouble.tell(&rt),

@@ -1,4 +1,6 @@
 // From the two files to the tables and what the search says of them.
+ghost use Rattle.std.specs.Prelude.{◌≤◌, length};
+
 use crate::ask::Request;
 use crate::built::matter_of;
 use crate::files::read_file;
@@ -36,7 +38,9 @@ fn kind_of(way: Way) -> Kind {
     }
 }
 
-// What the asked search says of the sheet, by tables that are built of the codes.
+// What the asked search says of the sheet, by tables that are built of the codes. The tables are some 4 MiB of this function's frame. It, `work` and
+// `run` keep frames of their own: in that of `main` all their rooms would be asked of the stack even to print the help or to tell a missing file.
+#[inline(never)]
 fn build_and_tell<'a, 's>(
     rt: &HostRuntime,
     request: &'a Request,
@@ -92,6 +96,33 @@ fn build_and_tell<'a, 's>(
     tell_all(rt, request.way, request.numbers, name, job)
 }
 
+// The rows of the list, in tables that stand in this frame, and what is told by them.
+#[inline(never)]
+fn work<'a>(
+    rt: &HostRuntime,
+    request: &'a Request,
+    list: &[u8],
+    sheet: &[u8],
+) -> Result<(), Trouble<'a>>
+    requires { length list.now ≤ 131072 }
+{
+    let mut bytes = [0u8; LIST];
+    let mut ends = [0u32; LISTED];
+    let mut values = [0u32; LISTED];
+    let mut marks = [0u8; LISTED];
+    let read = read_codes(list, &mut bytes, &mut ends, &mut values, &mut marks).map_err(
+        |fault| Trouble::File(request.list.as_bytes(), Matter::from(fault)),
+    )?;
+    let codes = Codes {
+        bytes: &bytes[..read.end],
+        ends: &ends[..read.rows],
+        values: &values[..read.rows],
+        marks: &marks[..read.rows],
+    };
+    build_and_tell(rt, request, codes, sheet)
+}
+
+#[inline(never)]
 pub(crate) fn run<'a>(rt: &HostRuntime, request: &'a Request) -> Result<(), Trouble<'a>> {
     let list_name = request.list.as_bytes();
     let sheet_name = request.sheet.as_bytes();
@@ -107,18 +138,5 @@ pub(crate) fn run<'a>(rt: &HostRuntime, request: &'a Request) -> Result<(), Trou
     let sheet = read_file(rt, sheet_name, &mut sheet_room).map_err(|matter| Trouble::File(
         sheet_name, matter,
     ))?;
-    let mut bytes = [0u8; LIST];
-    let mut ends = [0u32; LISTED];
-    let mut values = [0u32; LISTED];
-    let mut marks = [0u8; LISTED];
-    let read = read_codes(list, &mut bytes, &mut ends, &mut values, &mut marks).map_err(
-        |fault| Trouble::File(list_name, Matter::from(fault)),
-    )?;
-    let codes = Codes {
-        bytes: &bytes[..read.end],
-        ends: &ends[..read.rows],
-        values: &values[..read.rows],
-        marks: &marks[..read.rows],
-    };
-    build_and_tell(rt, request, codes, sheet)
+    work(rt, request, list, sheet)
 }

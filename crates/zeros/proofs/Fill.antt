@@ -32,5 +32,9 @@ module _ {A : Type 0} (z : A) where
         parts = rw (f.parts, add-one i) (fill_suc i s₀ h);
       }
 
+  -- the same, where the place and the value are told to be these
+  pub fill_next : (s₀ : List A) (i j : ℕ) (s : List A) (x : A) → Filled z s₀ i s → i < length s → j ≡ i → x ≡ z → Filled z s₀ (i + 1) (set s j x)
+  fill_next s₀ i j s x f l e h = rw (e, h) (fill_more s₀ i s f l)
+
   pub fill_all : (s₀ : List A) (i : ℕ) (s : List A) → Filled z s₀ i s → length s ≤ i → s ≡ replicate (length s₀) z
   fill_all s₀ i s f l = let e : i ≡ length s₀ = omega arith in f.parts ∙ rw e (rw drop-length (append-nil _))

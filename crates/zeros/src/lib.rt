@@ -38,11 +38,12 @@ impl<const N: usize> Zero for [u32; N] {
     }
 }
 
-// std's `fill` asks that a clone can't fail, which no bound says, so the slots are written here.
+// std's `fill` asks that a clone can't fail, which no bound says, so the slots are written here; by their places, so that a
+// fill that passes over some is another number and no other form (`must-fail/last_left.edit`).
 pub fn zero_all<T: Zero>(slots: &mut [T])
     ensures { slots.new ≡ replicate (length slots.old) T.zero }
 {
-    for slot in slots.iter_mut() {
-        *slot = T::zero();
+    for i in 0..slots.len() {
+        slots[i] = T::zero();
     }
 }

@@ -2,5 +2,5 @@
 use Rattle.zeros.proofs.Fill.{Filled}
 use Rattle.zeros.proofs.zero_all.Given as goal
 
-abbrev pub invariant-loop-slot : goal.invariant-loop-slot
-invariant-loop-slot g l = Filled g.T.Zero.zero l.initial.slots l.slot-index l.slots
+abbrev pub invariant-loop-i : goal.invariant-loop-i
+invariant-loop-i g l = Filled g.T.Zero.zero l.initial.slots l.i l.slots
